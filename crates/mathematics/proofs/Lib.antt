@@ -1,0 +1,3 @@
+-- The laws, smallest first; the theorems that docs/PROMISES.md names come last.
+pub mod Basics
+pub mod Examples
