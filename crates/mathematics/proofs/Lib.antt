@@ -3,3 +3,4 @@ pub mod Basics
 pub mod Examples
 pub mod WithReads
 pub mod Parts
+pub mod Overlap
