@@ -4,3 +4,5 @@ pub mod Examples
 pub mod WithReads
 pub mod Parts
 pub mod Overlap
+pub mod Taken
+pub mod Dropped
