@@ -6,3 +6,4 @@ pub mod Parts
 pub mod Overlap
 pub mod Taken
 pub mod Dropped
+pub mod Longest
