@@ -7,3 +7,4 @@ pub mod Overlap
 pub mod Taken
 pub mod Dropped
 pub mod Longest
+pub mod Joined
