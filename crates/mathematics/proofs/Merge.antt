@@ -146,12 +146,15 @@ add-distinct k p (u ∷ U) h = pick (samePath p (u .path)) differ (add-distinct 
   where
     differ : u .path ≡ p → T (samePath p (u .path))
     differ e = subst (λ q. T (samePath p q)) (sym e) (same-path-self p)
+
     pick : (b : Bool) → (u .path ≡ p → T b) → Distinct (paths (add k p U)) →
         Distinct (paths (cond b (record { weight = k + u .weight; path = u .path } ∷ U) (u ∷ add k p U)))
     pick true same ih = h
-    pick false same ih =
-        (all-map (λ q. u .path ≢ q) (λ (w : Weighted). w .path) (add k p U)
-          (add-all (λ w. u .path ≢ w .path) (λ a b q n. n) k p U same (all-unmap (λ q. u .path ≢ q) (λ (w : Weighted). w .path) U (h .0))), ih)
+    pick false same ih = (
+      all-map (λ q. u .path ≢ q) (λ (w : Weighted). w .path) (add k p U)
+          (add-all (λ w. u .path ≢ w .path) (λ a b q n. n) k p U same (all-unmap (λ q. u .path ≢ q) (λ (w : Weighted). w .path) U (h .0))),
+      ih,
+    )
 
 keep-distinct : (k : ℕ) (p : List ℕ) (U : List Weighted) → Distinct (paths U) → Distinct (paths (keep k p U))
 keep-distinct zero p U h = h
