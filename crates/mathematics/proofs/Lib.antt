@@ -2,3 +2,4 @@
 pub mod Basics
 pub mod Examples
 pub mod Merge
+pub mod Reach
