@@ -316,3 +316,183 @@ module _ {E : Type 0} (G : Graph E) (wf : WellFormed G) where
     and-in (fromStart G u) (toEnd G u) f (to-end-along u (v ∷ p) l e),
     useful-along v p (linked-rest (G .arcs) u v p l) (from-start-arc u v (linked-first (G .arcs) u v p l) f) e,
   )
+
+-- ---- an item or a read on a path
+
+begins-own : (r q : List ℕ) → T (begins r (r ++ q))
+begins-own [] q = tt
+begins-own (x ∷ r) q = and-in (eqb x x) (begins r (r ++ q)) (eqb-refl x) (begins-own r q)
+
+held-between : (u : ℕ) (p r q : List ℕ) → T (holds (u ∷ (p ++ (r ++ q))) (lastOf u p ∷ r))
+held-between u [] r q =
+    or-l (begins (u ∷ r) (u ∷ (r ++ q))) (holds (r ++ q) (u ∷ r))
+    (and-in (eqb u u) (begins r (r ++ q)) (eqb-refl u) (begins-own r q))
+held-between u (v ∷ p) r q =
+    or-r (begins (lastOf v p ∷ r) (u ∷ v ∷ (p ++ (r ++ q)))) (holds (v ∷ (p ++ (r ++ q))) (lastOf v p ∷ r)) (held-between v p r q)
+
+-- a vertex is passed exactly when the path holds it, an arc when the path holds its ends consecutively
+through-vertex-held : (v u : ℕ) (p : List ℕ) → 1 ≤ through (vert v) (u ∷ p) → T (holds (u ∷ p) (v ∷ []))
+through-vertex-held v u [] h = pick (eqb v u) h
+  where
+    pick : (b : Bool) → 1 ≤ oneIf b + 0 → T ((b && true) || false)
+    pick true h = tt
+    pick false h = absurd (omega arith)
+through-vertex-held v u (w ∷ p) h = pick (eqb v u) h (through-vertex-held v w p)
+  where
+    pick : (b : Bool) → 1 ≤ oneIf b + (0 + through (vert v) (w ∷ p)) → (1 ≤ through (vert v) (w ∷ p) → T (holds (w ∷ p) (v ∷ []))) →
+        T ((b && true) || holds (w ∷ p) (v ∷ []))
+    pick true h ih = tt
+    pick false h ih = ih (omega arith)
+
+through-arc-held : (a b u : ℕ) (p : List ℕ) → 1 ≤ through (arc a b) (u ∷ p) → T (holds (u ∷ p) (a ∷ b ∷ []))
+through-arc-held a b u [] h = absurd (omega arith)
+through-arc-held a b u (w ∷ p) h = pick (eqb a u) (eqb b w) h (through-arc-held a b w p)
+  where
+    pick : (x y : Bool) → 1 ≤ 0 + (oneIf (x && y) + through (arc a b) (w ∷ p)) →
+        (1 ≤ through (arc a b) (w ∷ p) → T (holds (w ∷ p) (a ∷ b ∷ []))) → T ((x && (y && true)) || holds (w ∷ p) (a ∷ b ∷ []))
+    pick true true h ih = tt
+    pick true false h ih = ih (omega arith)
+    pick false y h ih = ih (omega arith)
+
+held-through-vertex : (v u : ℕ) (p : List ℕ) → T (holds (u ∷ p) (v ∷ [])) → 1 ≤ through (vert v) (u ∷ p)
+held-through-vertex v u [] h = pick (eqb v u) h
+  where
+    pick : (b : Bool) → T ((b && true) || false) → 1 ≤ oneIf b + 0
+    pick true h = omega arith
+    pick false h = absurd h
+held-through-vertex v u (w ∷ p) h = pick (eqb v u) h (held-through-vertex v w p)
+  where
+    pick : (b : Bool) → T ((b && true) || holds (w ∷ p) (v ∷ [])) → (T (holds (w ∷ p) (v ∷ [])) → 1 ≤ through (vert v) (w ∷ p)) →
+        1 ≤ oneIf b + (0 + through (vert v) (w ∷ p))
+    pick true h ih = omega arith
+    pick false h ih = omega (arith, ih h)
+
+held-through-arc : (a b u : ℕ) (p : List ℕ) → T (holds (u ∷ p) (a ∷ b ∷ [])) → 1 ≤ through (arc a b) (u ∷ p)
+held-through-arc a b u [] h = absurd (none (eqb a u) h)
+  where
+    none : (x : Bool) → T ((x && false) || false) → ⊥
+    none true h = h
+    none false h = h
+held-through-arc a b u (w ∷ p) h = pick (eqb a u) (eqb b w) h (held-through-arc a b w p)
+  where
+    pick : (x y : Bool) → T ((x && (y && true)) || holds (w ∷ p) (a ∷ b ∷ [])) →
+        (T (holds (w ∷ p) (a ∷ b ∷ [])) → 1 ≤ through (arc a b) (w ∷ p)) → 1 ≤ 0 + (oneIf (x && y) + through (arc a b) (w ∷ p))
+    pick true true h ih = omega arith
+    pick true false h ih = omega (arith, ih h)
+    pick false y h ih = omega (arith, ih h)
+
+-- A path passes an item exactly when it holds the item's vertices consecutively.
+pub through-iff-holds : (i : Item) (p : List ℕ) → (1 ≤ through i p) ↔ T (holds p (itemList i))
+through-iff-holds (vert v) [] = (λ h. absurd (omega arith), λ h. absurd h)
+through-iff-holds (vert v) (u ∷ p) = (through-vertex-held v u p, held-through-vertex v u p)
+through-iff-holds (arc a b) [] = (λ h. absurd (omega arith), λ h. absurd h)
+through-iff-holds (arc a b) (u ∷ p) = (through-arc-held a b u p, held-through-arc a b u p)
+
+module _ {E : Type 0} (G : Graph E) where
+  -- the three parts of a path
+  pub path-start : (s : ℕ) (p : List ℕ) → T (isPath G (s ∷ p)) → T (isStart G s)
+  path-start s p h = and-l (isStart G s) (linked (G .arcs) (s ∷ p) && isEnd G (lastOf s p)) h
+
+  pub path-linked : (s : ℕ) (p : List ℕ) → T (isPath G (s ∷ p)) → T (linked (G .arcs) (s ∷ p))
+  path-linked s p h =
+      and-l (linked (G .arcs) (s ∷ p)) (isEnd G (lastOf s p))
+      (and-r (isStart G s) (linked (G .arcs) (s ∷ p) && isEnd G (lastOf s p)) h)
+
+  pub path-end : (s : ℕ) (p : List ℕ) → T (isPath G (s ∷ p)) → T (isEnd G (lastOf s p))
+  path-end s p h =
+      and-r (linked (G .arcs) (s ∷ p)) (isEnd G (lastOf s p))
+      (and-r (isStart G s) (linked (G .arcs) (s ∷ p) && isEnd G (lastOf s p)) h)
+
+  pub path-from-parts : (s : ℕ) (p : List ℕ) → T (isStart G s) → T (linked (G .arcs) (s ∷ p)) → T (isEnd G (lastOf s p)) →
+      T (isPath G (s ∷ p))
+  path-from-parts s p a b c =
+      and-in (isStart G s) (linked (G .arcs) (s ∷ p) && isEnd G (lastOf s p)) a
+      (and-in (linked (G .arcs) (s ∷ p)) (isEnd G (lastOf s p)) b c)
+
+  pub item-as-read : (i : Item) → ItemOnPath G i ↔ ReadOnPath G (itemList i)
+  item-as-read i =
+      (λ h. (h .0, h .1, through-iff-holds i (h .0) .0 (h .2)), λ h. (h .0, h .1, through-iff-holds i (h .0) .1 (h .2)))
+
+  path-between : (s : ℕ) (p r : List ℕ) → T (isStart G s) → T (linked (G .arcs) (s ∷ p)) → T (linked (G .arcs) (lastOf s p ∷ r)) →
+      LeadsOn G (lastOf (lastOf s p) r) → ReadOnPath G (lastOf s p ∷ r)
+  path-between s p r a l m on =
+      let q = on .0 in (
+        s ∷ (p ++ (r ++ q)),
+        path-from-parts s (p ++ (r ++ q)) a
+            (linked-append (G .arcs) s p (r ++ q) l (linked-append (G .arcs) (lastOf s p) r q m (on .1)))
+            (subst (λ x. T (isEnd G x)) (sym (last-append s p (r ++ q) ∙ last-append (lastOf s p) r q)) (on .2)),
+        held-between s p r q,
+      )
+
+module _ {E : Type 0} (G : Graph E) (wf : WellFormed G) where
+  begins-to-end : (u : ℕ) (p r : List ℕ) → T (linked (G .arcs) (u ∷ p)) → T (toEnd G (lastOf u p)) → T (begins r p) →
+      T (toEnd G (lastOf u r))
+  begins-to-end u p [] l e b = to-end-along G wf u p l e
+  begins-to-end u [] (x ∷ r) l e b = absurd b
+  begins-to-end u (y ∷ p) (x ∷ r) l e b =
+      subst (λ z. T (toEnd G (lastOf z r))) (sym (eqb→eq x y (and-l (eqb x y) (begins r p) b)))
+      (begins-to-end y p r (linked-rest (G .arcs) u y p l) e (and-r (eqb x y) (begins r p) b))
+
+  begun-lies : (u : ℕ) (p : List ℕ) (v : ℕ) (r : List ℕ) → T (linked (G .arcs) (u ∷ p)) → T (fromStart G u) → T (toEnd G (lastOf u p)) →
+      T (begins (v ∷ r) (u ∷ p)) → T (fromStart G v) × T (toEnd G (lastOf v r))
+  begun-lies u p v r l f e b =
+      let same : v ≡ u = eqb→eq v u (and-l (eqb v u) (begins r p) b) in (
+        subst (λ x. T (fromStart G x)) (sym same) f,
+        subst (λ x. T (toEnd G (lastOf x r))) (sym same) (begins-to-end u p r l e (and-r (eqb v u) (begins r p) b)),
+      )
+
+  held-lies : (u : ℕ) (p : List ℕ) (v : ℕ) (r : List ℕ) → T (linked (G .arcs) (u ∷ p)) → T (fromStart G u) → T (toEnd G (lastOf u p)) →
+      T (holds (u ∷ p) (v ∷ r)) → T (fromStart G v) × T (toEnd G (lastOf v r))
+  held-lies u [] v r l f e h =
+      elim (or-cases (begins (v ∷ r) (u ∷ [])) false h) [ inl b ↦ begun-lies u [] v r l f e b | inr n ↦ absurd n ]
+  held-lies u (w ∷ p) v r l f e h =
+      elim (or-cases (begins (v ∷ r) (u ∷ w ∷ p)) (holds (w ∷ p) (v ∷ r)) h) [
+        | inl b ↦ begun-lies u (w ∷ p) v r l f e b
+        | inr k ↦
+            held-lies w p v r (linked-rest (G .arcs) u w p l) (from-start-arc G wf u w (linked-first (G .arcs) u w p l) f) e k
+      ]
+
+  path-lies : (p : List ℕ) (v : ℕ) (r : List ℕ) → T (isPath G p) → T (holds p (v ∷ r)) → T (fromStart G v) × T (toEnd G (lastOf v r))
+  path-lies [] v r h k = absurd h
+  path-lies (s ∷ p) v r h k =
+      held-lies s p v r (path-linked G s p h) (start-from-start G s (path-start G s p h))
+      (end-to-end G (lastOf s p) (path-end G s p h)) k
+
+  -- "A read lies on such a path exactly when its first vertex is reached from a start and its last reaches an end."
+  pub read-on-path : (v : ℕ) (r : List ℕ) → T (linked (G .arcs) (v ∷ r)) →
+      ReadOnPath G (v ∷ r) ↔ (T (fromStart G v) × T (toEnd G (lastOf v r)))
+  read-on-path v r l = (λ h. path-lies (h .0) v r (h .1) (h .2), λ h. back (from-start-path G v (h .0)) (to-end-path G (lastOf v r) (h .1)))
+    where
+      back : LeadsTo G v → LeadsOn G (lastOf v r) → ReadOnPath G (v ∷ r)
+      back to on =
+          subst (λ x. T (linked (G .arcs) (x ∷ r)) → LeadsOn G (lastOf x r) → ReadOnPath G (x ∷ r)) (to .4)
+          (path-between G (to .0) (to .1) r (to .2) (to .3)) l on
+
+  -- A vertex lies on a path exactly when it is useful,
+  pub vertex-on-path : (v : ℕ) → ItemOnPath G (vert v) ↔ T (useful G v)
+  vertex-on-path v = (
+    λ h. let r = read-on-path v [] tt .0 (item-as-read G (vert v) .0 h) in and-in (fromStart G v) (toEnd G v) (r .0) (r .1),
+    λ h. item-as-read G (vert v) .1
+        (read-on-path v [] tt .1 (and-l (fromStart G v) (toEnd G v) h, and-r (fromStart G v) (toEnd G v) h)),
+  )
+
+  -- an arc exactly when its tail is reached from a start and its head reaches an end.
+  pub arc-on-path : (u v : ℕ) → T (hasArc (G .arcs) u v) → ItemOnPath G (arc u v) ↔ (T (fromStart G u) × T (toEnd G v))
+  arc-on-path u v t =
+      let l : T (linked (G .arcs) (u ∷ v ∷ [])) = and-in (hasArc (G .arcs) u v) true t tt in (
+        λ h. read-on-path u (v ∷ []) l .0 (item-as-read G (arc u v) .0 h),
+        λ h. item-as-read G (arc u v) .1 (read-on-path u (v ∷ []) l .1 h),
+      )
+
+  -- Both ends of an arc on a path are useful,
+  pub arc-ends-useful : (u v : ℕ) → T (hasArc (G .arcs) u v) → ItemOnPath G (arc u v) → T (useful G u) × T (useful G v)
+  arc-ends-useful u v t h =
+      let r = arc-on-path u v t .0 h in
+      let both = useful-along G wf u (v ∷ []) (and-in (hasArc (G .arcs) u v) true t tt) (r .0) (r .1) in
+      (both .0, both .1 .0)
+
+  -- and so is every vertex of a read on a path.
+  pub read-useful : (v : ℕ) (r : List ℕ) → T (linked (G .arcs) (v ∷ r)) → ReadOnPath G (v ∷ r) → All (λ x. T (useful G x)) (v ∷ r)
+  read-useful v r l h =
+      let both = read-on-path v r l .0 h in
+      useful-along G wf v r l (both .0) (both .1)
