@@ -3,3 +3,4 @@ pub mod Basics
 pub mod Examples
 pub mod Merge
 pub mod Reach
+pub mod Existence
