@@ -43,6 +43,10 @@ held-by-some r (w ∷ W) h =
       | inr k ↦ let x = held-by-some r W k in (x .0, inr (x .1), x .2)
     ]
 
+weight-through : (d t : ℕ) → (1 ≤ d → 1 ≤ t) → d ≤ d * t
+weight-through zero t f = omega arith
+weight-through (suc d) t f = le-mul-of-pos-right (suc d) (f (omega arith))
+
 module _ {E : Type 0} (G : Graph E) where
   -- "each vertex and arc of positive demand, and each read, lies on some path": the cover's own paths show it.
   pub cover-shows-coverable : (W : List Weighted) → IsCover G W → Coverable G
@@ -92,10 +96,6 @@ module _ {E : Type 0} (G : Graph E) where
   unfolding readPaths
   read-paths-are [] h = tt
   read-paths-are (r ∷ rs) h = (λ one. h .0 .1, read-paths-are rs (h .1))
-
-  weight-through : (d t : ℕ) → (1 ≤ d → 1 ≤ t) → d ≤ d * t
-  weight-through zero t f = omega arith
-  weight-through (suc d) t f = le-mul-of-pos-right (suc d) (f (omega arith))
 
   -- each item's demand is met by its own path
   item-paths-meet : (needs : List Ask) (h : All (λ a. 1 ≤ a .demand → ItemOnPath G (a .item)) needs) (more : List Weighted) →
@@ -156,6 +156,20 @@ every-iff f Q (x ∷ xs) h =
       λ q. and-in (f x) (every f xs) (h .0 .1 (q .0)) (rest .1 (q .1)),
     )
 
+module _ {E : Type 0} (G : Graph E) where
+  vertices-linked : (k : ℕ) (xs : List Vertex) → All (λ a. T (linked (G .arcs) (itemList (a .item)))) (vertexAsks k xs)
+  vertices-linked k [] = tt
+  vertices-linked k (x ∷ xs) = (tt, vertices-linked (suc k) xs)
+
+  -- the vertices of each item of the graph are linked
+  pub asks-linked : All (λ a. T (linked (G .arcs) (itemList (a .item)))) (asks G)
+  asks-linked =
+      all-append (λ a. T (linked (G .arcs) (itemList (a .item)))) (vertexAsks 0 (G .vertices)) (map arcAsk (G .arcs))
+      (vertices-linked 0 (G .vertices))
+      (all-map (λ a. T (linked (G .arcs) (itemList (a .item)))) arcAsk (G .arcs)
+      (all-from (λ a. T (linked (G .arcs) (a .tail ∷ a .head ∷ []))) (G .arcs)
+      (λ a m. and-in (hasArc (G .arcs) (a .tail) (a .head)) true (arc-joins (G .arcs) a m) tt)))
+
 module _ {E : Type 0} (G : Graph E) (wf : WellFormed G) where
   -- the test of a read says whether it lies on a path,
   pub read-lies : (r : List ℕ) → 1 ≤ length r → T (linked (G .arcs) r) → T (readLies G r) ↔ ReadOnPath G r
@@ -195,18 +209,6 @@ module _ {E : Type 0} (G : Graph E) (wf : WellFormed G) where
       back : (1 ≤ a .demand → ItemOnPath G (a .item)) → T (askLies G a)
       back f = pick (a .demand) f
 
-  vertices-linked : (k : ℕ) (xs : List Vertex) → All (λ a. T (linked (G .arcs) (itemList (a .item)))) (vertexAsks k xs)
-  vertices-linked k [] = tt
-  vertices-linked k (x ∷ xs) = (tt, vertices-linked (suc k) xs)
-
-  pub asks-linked : All (λ a. T (linked (G .arcs) (itemList (a .item)))) (asks G)
-  asks-linked =
-      all-append (λ a. T (linked (G .arcs) (itemList (a .item)))) (vertexAsks 0 (G .vertices)) (map arcAsk (G .arcs))
-      (vertices-linked 0 (G .vertices))
-      (all-map (λ a. T (linked (G .arcs) (itemList (a .item)))) arcAsk (G .arcs)
-      (all-from (λ a. T (linked (G .arcs) (a .tail ∷ a .head ∷ []))) (G .arcs)
-      (λ a m. and-in (hasArc (G .arcs) (a .tail) (a .head)) true (arc-joins (G .arcs) a m) tt)))
-
   -- Whether a cover exists is decided by a test.
   pub coverable-decided : T (coverable-test G) ↔ Coverable G
   unfolding coverable-test
@@ -214,7 +216,7 @@ module _ {E : Type 0} (G : Graph E) (wf : WellFormed G) where
       let items =
       every-iff (askLies G) (λ a. 1 ≤ a .demand → ItemOnPath G (a .item)) (asks G)
       (all-weaken (λ a. T (linked (G .arcs) (itemList (a .item)))) (λ a. T (askLies G a) ↔ (1 ≤ a .demand → ItemOnPath G (a .item)))
-      (asks G) ask-lies asks-linked) in
+      (asks G) ask-lies (asks-linked G)) in
       let reads =
       every-iff (readLies G) (ReadOnPath G) (G .reads)
       (all-weaken (λ r. (2 ≤ length r) × T (linked (G .arcs) r)) (λ r. T (readLies G r) ↔ ReadOnPath G r) (G .reads)
