@@ -1,0 +1,5 @@
+pub mod Bytes
+pub mod Limits
+pub mod GraphForm
+pub mod GraphFaults
+pub mod GraphOf
