@@ -1,6 +1,9 @@
 -- The laws, smallest first; the theorems that docs/PROMISES.md names come last.
 pub mod Basics
 pub mod Examples
+pub mod Merge
+pub mod Reach
+pub mod Existence
 pub mod WithReads
 pub mod Parts
 pub mod Overlap
