@@ -11,3 +11,4 @@ pub mod Taken
 pub mod Dropped
 pub mod Longest
 pub mod Joined
+pub mod Linked
