@@ -12,3 +12,4 @@ pub mod Dropped
 pub mod Longest
 pub mod Joined
 pub mod Linked
+pub mod Exchange
