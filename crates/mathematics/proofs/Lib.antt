@@ -13,3 +13,4 @@ pub mod Longest
 pub mod Joined
 pub mod Linked
 pub mod Exchange
+pub mod Prepared

@@ -58,6 +58,10 @@ module _ {A : Type 0} where
     put-pairwise here p h = (p, h)
     put-pairwise {x} (there {y} {xs} {ys} t) p h = (put-all (R y) t (swap x y (p .0)) (h .0), put-pairwise t (p .1) (h .1))
 
-  pub pairwise-weaken : (R S : A → A → Type 0) (xs : List A) → ((x y : A) → R x y → S x y) → Pairwise R xs → Pairwise S xs
-  pairwise-weaken R S [] f h = tt
-  pairwise-weaken R S (x ∷ xs) f h = (all-weaken (R x) (S x) xs (f x) (h .0), pairwise-weaken R S xs f (h .1))
+  pub all-both : (P Q S : A → Type 0) (xs : List A) → ((x : A) → P x → Q x → S x) → All P xs → All Q xs → All S xs
+  all-both P Q S [] f h k = tt
+  all-both P Q S (x ∷ xs) f h k = (f x (h .0) (k .0), all-both P Q S xs f (h .1) (k .1))
+
+  pub pairwise-both : (P Q S : A → A → Type 0) (xs : List A) → ((x y : A) → P x y → Q x y → S x y) → Pairwise P xs → Pairwise Q xs → Pairwise S xs
+  pairwise-both P Q S [] f h k = tt
+  pairwise-both P Q S (x ∷ xs) f h k = (all-both (P x) (Q x) (S x) xs (f x) (h .0) (k .0), pairwise-both P Q S xs f (h .1) (k .1))
