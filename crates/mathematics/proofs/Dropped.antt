@@ -1,6 +1,6 @@
 -- Document 01: "Drop a read that is a consecutive part of another. Of equal reads keep the lowest numbered." Each read stands in one that is
 -- kept, and no kept one stands in another.
-use Prim.Native.Nat.{ℕ, zero, suc, _+_, _≤_, _<_}
+use Prim.Native.Nat.{ℕ, suc, _≤_, _<_}
 use native.Mathlib.Omega.{arith}
 use mathlib.Core.Path.{_≡_, refl, sym, ap, subst, _∙_}
 use mathlib.Core.List.{List, [], _∷_, _++_, append-nil}

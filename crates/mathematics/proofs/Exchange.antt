@@ -1,8 +1,7 @@
 -- L6: from a cover that holds two reads, one that holds their joined read and all the others, with the same totals. One copy of each of two
 -- paths exchanges its end with the other.
-use Prim.Native.Nat.{ℕ, zero, suc, _+_, _*_, _≤_, _<_, pred}
+use Prim.Native.Nat.{ℕ, zero, suc, _+_, _*_, _≤_, pred}
 use native.Mathlib.Omega.{arith}
-use native.Mathlib.Nat.{suc-pred-eq-of-pos}
 use mathlib.Core.Path.{_≡_, refl, sym, ap, subst, _∙_}
 use mathlib.Core.List.{List, [], _∷_, _++_, append-nil, append-assoc}
 use mathlib.Core.Logic.{_⊎_, inl, inr}
@@ -12,12 +11,11 @@ use Rattle.mathematics.specs.Lists.{All, holds, someHolds}
 use Rattle.mathematics.specs.Range.{OneOf}
 use Rattle.mathematics.specs.Graph.{Graph, WellFormed, isPath}
 use Rattle.mathematics.specs.Cover.{Item, Ask, Weighted, IsCover, asks, through, total, totalWeight, paths}
-use Rattle.mathematics.specs.Prepare.{overlap}
 use Rattle.mathematics.proofs.Basics.{all-from, all-among, all-weaken, among-map}
 use Rattle.mathematics.proofs.Merge.{merge, merge-total, merge-weight, merge-weights, merge-all, merge-distinct, merge-holds, some-holds}
 use Rattle.mathematics.proofs.Existence.{held-by-some}
 use Rattle.mathematics.proofs.WithReads.{withReads, Pairwise, path-with-reads, cover-with-reads}
-use Rattle.mathematics.proofs.Parts.{Within, within-holds, holds-within, within-trans, Parts, parts, Rising, one-place}
+use Rattle.mathematics.proofs.Parts.{Within, within-holds, holds-within, within-trans, regroup, Parts, parts, Rising, one-place}
 use Rattle.mathematics.proofs.Overlap.{Clear, clear-swap, none-across-left, none-across-right}
 use Rattle.mathematics.proofs.Taken.{Taken, here, there, taken-all, put-all, take-one, taken-cases}
 use Rattle.mathematics.proofs.Longest.{AtMost}
@@ -25,9 +23,6 @@ use Rattle.mathematics.proofs.Joined.{Join, join-all, join-old, left, r
 use Rattle.mathematics.proofs.Linked.{linked-rising, path-is-linked, path-exchange, through-exchange}
 
 -- ---- where the joined read and the other reads lie afterwards
-
-regroup-left : (a x o b : List ℕ) → a ++ ((x ++ o) ++ b) ≡ (a ++ x) ++ (o ++ b)
-regroup-left a x o b = simp append-assoc
 
 regroup-right : (c o y d : List ℕ) → c ++ ((o ++ y) ++ d) ≡ c ++ (o ++ (y ++ d))
 regroup-right c o y d = simp append-assoc
@@ -232,12 +227,12 @@ module _ {E : Type 0} (G : Graph E) (rs rs′ : List (List ℕ)) (j : Join rs rs
       let up = linked-rising (length (G .vertices)) (G .arcs) (wf .rises) (w .path) (path-is-linked G (w .path) is) in
       same-cover w m
       (within-holds (w .path) (whole rs rs′ j)
-      (whole-in-one (j .x) (j .o) (j .y) (w .path) a b p q (j .some-o) up (e ∙ regroup-left a (j .x) (j .o) b) (f ∙ regroup-right p (j .o) (j .y) q)))
+      (whole-in-one (j .x) (j .o) (j .y) (w .path) a b p q (j .some-o) up (e ∙ regroup a (j .x) (j .o) b) (f ∙ regroup-right p (j .o) (j .y) q)))
 
   two-paths : Pairwise Clear rs → (A B : Weighted) (W₁ : List Weighted) → Taken A W W₁ → OneOf W₁ B → Within (left rs rs′ j) (A .path) → Within (right rs rs′ j) (B .path) → CoverLike (withReads G rs′) W
   two-paths clear A B W₁ first m (a, b, e) (p, q, f) =
       let (W₂, second) = take-one B W₁ m in
-      exchange-cover A B W₁ W₂ first second a b p q (e ∙ regroup-left a (j .x) (j .o) b) (f ∙ regroup-right p (j .o) (j .y) q) clear
+      exchange-cover A B W₁ W₂ first second a b p q (e ∙ regroup a (j .x) (j .o) b) (f ∙ regroup-right p (j .o) (j .y) q) clear
 
   -- a cover of the reads gives one of the reads after a join, with the same totals
   pub join-cover : WellFormed G → Pairwise Clear rs → CoverLike (withReads G rs′) W

@@ -1,22 +1,21 @@
 -- One join of document 01, "Replace both by the joined read", as lists: x ++ o and o ++ y are taken out and x ++ (o ++ y) is put in. Still no
 -- read stands in another (L7), each old read stands in a new one, and joining ends with no overlap left.
-use Prim.Native.Nat.{ℕ, zero, suc, _+_, _≤_, _<_, min, max}
+use Prim.Native.Nat.{ℕ, zero, suc, _≤_, _<_, min, max}
 use native.Mathlib.Omega.{arith}
 use native.Mathlib.Decide.{decLt}
-use mathlib.Core.Path.{_≡_, refl, sym, ap, ap₂, subst, subst₃, _∙_}
+use mathlib.Core.Path.{_≡_, refl, sym, ap, subst, subst₃, _∙_}
 use mathlib.Core.List.{List, [], _∷_, _++_, append-nil, append-assoc}
 use mathlib.Core.Bool.{Bool, true, false, cond}
-use mathlib.Core.Logic.{_⊎_, inl, inr}
+use mathlib.Core.Logic.{inl, inr}
 use lib.Dec.{T, eqb, eqb→eq, eqb-refl}
 use lib.ListN.{length, getD, set, drop}
 use Rattle.mathematics.specs.Lists.{All}
-use Rattle.mathematics.specs.Range.{OneOf}
-use Rattle.mathematics.specs.Prepare.{overlap, Meeting, longest, without, joinAt, joinWhile}
+use Rattle.mathematics.specs.Prepare.{Meeting, longest, without, joinAt, joinWhile}
 use Rattle.mathematics.proofs.Basics.{all-from, all-among}
 use Rattle.mathematics.proofs.WithReads.{Pairwise}
 use Rattle.mathematics.proofs.Parts.{Within, Held, within-self, within-trans, held-trans, Parts, parts}
-use Rattle.mathematics.proofs.Overlap.{Clear, clear-swap, Meet, overlap-meets, drop-length, none-across-left}
-use Rattle.mathematics.proofs.Taken.{Taken, here, there, taken-all, put-all, taken-length, taken-swap, taken-pairwise, put-pairwise, taken-among, taken-cases}
+use Rattle.mathematics.proofs.Overlap.{Clear, clear-swap, overlap-meets, drop-length, none-across-left}
+use Rattle.mathematics.proofs.Taken.{Taken, here, there, taken-all, put-all, taken-length, taken-swap, taken-pairwise, put-pairwise}
 use Rattle.mathematics.proofs.Longest.{AtMost, longest-most, Meets, longest-meets}
 
 module _ {A : Type 0} where

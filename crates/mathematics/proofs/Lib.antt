@@ -14,3 +14,4 @@ pub mod Joined
 pub mod Linked
 pub mod Exchange
 pub mod Prepared
+pub mod Room

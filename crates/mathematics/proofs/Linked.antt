@@ -1,20 +1,20 @@
 -- Linked lists and paths cut at a vertex: two that pass the same vertex may exchange their ends, and together they pass what they passed before.
-use Prim.Native.Nat.{ℕ, zero, suc, _+_, _≤_, _<_}
+use Prim.Native.Nat.{ℕ, _+_, _≤_, _<_}
 use native.Mathlib.Omega.{arith}
-use mathlib.Core.Path.{_≡_, refl, sym, ap, subst, _∙_}
+use mathlib.Core.Path.{_≡_, sym, subst}
 use mathlib.Core.List.{List, [], _∷_, _++_}
-use mathlib.Core.Bool.{Bool, true, false, _&&_}
+use mathlib.Core.Bool.{true}
 use lib.Dec.{T}
 use lib.ListN.{length}
 use Rattle.mathematics.specs.Lists.{All, lastOf}
-use Rattle.mathematics.specs.Graph.{Arc, Graph, Rises, WellFormed, isStart, isEnd, hasArc, linked, isPath}
-use Rattle.mathematics.specs.Cover.{Item, vert, arc, oneIf, sameItem, through}
-use Rattle.mathematics.proofs.Basics.{and-l, and-r, and-in, all-weaken}
+use Rattle.mathematics.specs.Graph.{Arc, Graph, Rises, isStart, isEnd, hasArc, linked, isPath}
+use Rattle.mathematics.specs.Cover.{Item, through}
+use Rattle.mathematics.proofs.Basics.{and-in, all-weaken}
 use Rattle.mathematics.proofs.Reach.{last-append, linked-first, linked-rest, arc-rises, path-start, path-linked, path-end, path-from-parts}
 use Rattle.mathematics.proofs.Parts.{Rising, Within}
 
 -- the first of the list, or v where it is empty
-abbrev pub firstOf : ℕ → List ℕ → ℕ
+abbrev firstOf : ℕ → List ℕ → ℕ
 firstOf v [] = v
 firstOf v (u ∷ l) = u
 

@@ -1,26 +1,25 @@
 -- Document 01, "Preparing the reads": what remains are independent, linked reads, no more than there were, and covers of the one and of the other
 -- reads come from one another (the published Lemma 15.2).
-use Prim.Native.Nat.{ℕ, zero, suc, _+_, _≤_, _<_}
+use Prim.Native.Nat.{ℕ, _≤_}
 use native.Mathlib.Omega.{arith}
-use mathlib.Core.Path.{_≡_, refl, sym, ap, subst, _∙_}
+use mathlib.Core.Path.{_≡_, refl, _∙_}
 use mathlib.Core.List.{List, [], _∷_, _++_, append-assoc}
 use lib.Dec.{T}
 use lib.ListN.{length, getD, length-append, List·getD-append}
-use Rattle.mathematics.specs.Lists.{All, holds, someHolds, lastOf}
+use Rattle.mathematics.specs.Lists.{All, someHolds, lastOf}
 use Rattle.mathematics.specs.Range.{OneOf}
 use Rattle.mathematics.specs.Graph.{Arc, Graph, WellFormed, linked}
 use Rattle.mathematics.specs.Cover.{Item, Weighted, IsCover, total, totalWeight, paths}
-use Rattle.mathematics.specs.Prepare.{overlap, dropParts, prepare}
+use Rattle.mathematics.specs.Prepare.{dropParts, prepare}
 use Rattle.mathematics.proofs.Basics.{all-from, all-among, all-weaken}
 use Rattle.mathematics.proofs.Reach.{last-append}
-use Rattle.mathematics.proofs.Merge.{some-holds}
 use Rattle.mathematics.proofs.WithReads.{withReads, Pairwise, Apart, Independent, cover-with-reads}
-use Rattle.mathematics.proofs.Parts.{Held, holds-within, within-holds, some-held, held-trans}
+use Rattle.mathematics.proofs.Parts.{Held, holds-within, some-held, held-some, held-trans}
 use Rattle.mathematics.proofs.Overlap.{Clear}
 use Rattle.mathematics.proofs.Taken.{pairwise-both}
 use Rattle.mathematics.proofs.Dropped.{dropped-all, dropped-fewer, dropped-held, dropped-clear}
 use Rattle.mathematics.proofs.Longest.{AtMost}
-use Rattle.mathematics.proofs.Joined.{Join, join-fewer, join-all, join-clear, join-held, left, right, whole, while-keeps, while-ends}
+use Rattle.mathematics.proofs.Joined.{Join, join-fewer, join-all, join-clear, join-held, while-keeps, while-ends}
 use Rattle.mathematics.proofs.Linked.{linked-to, linked-join}
 use Rattle.mathematics.proofs.Exchange.{CoverLike, join-cover}
 
@@ -47,7 +46,7 @@ prepared-fewer rs =
     prepared-keeps (λ rs′. length rs′ ≤ length rs) (λ old new j h. omega (arith, join-fewer old new j)) rs (dropped-fewer [] rs)
 
 -- a read of the graph: two vertices or more, each consecutive pair an arc
-abbrev pub LinkedRead : {E : Type 0} → List (Arc E) → List ℕ → Type 0
+abbrev LinkedRead : {E : Type 0} → List (Arc E) → List ℕ → Type 0
 LinkedRead arcs r = (2 ≤ length r) × T (linked arcs r)
 
 linked-whole : {E : Type 0} (arcs : List (Arc E)) (x o y : List ℕ) → 1 ≤ length o → T (linked arcs (x ++ o)) → T (linked arcs (o ++ y)) → T (linked arcs (x ++ (o ++ y)))
@@ -107,7 +106,7 @@ module _ {E : Type 0} (G : Graph E) where
       let held = all-weaken (λ r. T (someHolds (paths W) r)) (Held (paths W)) rs (λ r. some-held (paths W) r) (c .reads-met) in
       cover-with-reads G rs (G .reads) W c
       (all-weaken (Held rs) (λ r. T (someHolds (paths W) r)) (G .reads)
-      (λ r h. let k = held-by-held (paths W) rs r held h in some-holds (k .0) (paths W) r (k .1) (within-holds (k .0) r (k .2)))
+      (λ r h. let k = held-by-held (paths W) rs r held h in held-some (paths W) r (k .0) (k .1) (k .2))
       (prepared-held (G .reads)))
 
   -- A cover of the reads gives one of the prepared reads with the same totals, and so the same price.

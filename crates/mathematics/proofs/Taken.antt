@@ -1,12 +1,12 @@
 -- One element taken out of a list, wherever it stands: what holds of all, or of any two, holds before exactly when it holds after and of what was taken.
-use Prim.Native.Nat.{ℕ, zero, suc, _+_, _≤_}
-use mathlib.Core.Path.{_≡_, refl, sym, ap, subst}
+use Prim.Native.Nat.{suc}
+use mathlib.Core.Path.{_≡_, refl, ap, subst}
 use mathlib.Core.List.{List, [], _∷_}
 use mathlib.Core.Logic.{_⊎_, inl, inr}
 use lib.ListN.{length}
 use Rattle.mathematics.specs.Lists.{All}
 use Rattle.mathematics.specs.Range.{OneOf}
-use Rattle.mathematics.proofs.Basics.{all-among, all-from, all-weaken}
+use Rattle.mathematics.proofs.Basics.{all-among, all-from}
 use Rattle.mathematics.proofs.WithReads.{Pairwise}
 
 -- the second list is the first without x
@@ -31,9 +31,6 @@ module _ {A : Type 0} where
   take-one x [] m = absurd m
   take-one x (y ∷ xs) (inl e) = (xs, subst (λ (z : A). Taken x (z ∷ xs) xs) e here)
   take-one x (y ∷ xs) (inr m) = let t = take-one x xs m in (y ∷ t .0, there (t .1))
-
-  pub taken-among : {x : A} {xs ys : List A} → Taken x xs ys → OneOf xs x
-  taken-among {xs} t = taken-all (OneOf xs) t (all-from (OneOf xs) xs (λ y m. m)) .0
 
   -- one of the whole is the one taken or one of what is left
   pub taken-cases : {x : A} {xs ys : List A} → Taken x xs ys → (z : A) → OneOf xs z → (z ≡ x) ⊎ OneOf ys z

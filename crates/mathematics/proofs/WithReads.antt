@@ -2,7 +2,6 @@
 use Prim.Native.Nat.{ℕ}
 use mathlib.Core.Path.{_≡_, refl, sym, _∙_, subst}
 use mathlib.Core.List.{List, [], _∷_}
-use mathlib.Core.Bool.{Bool}
 use lib.Dec.{T}
 use Rattle.mathematics.specs.Lists.{All, holds, someHolds}
 use Rattle.mathematics.specs.Graph.{Graph, isPath}
