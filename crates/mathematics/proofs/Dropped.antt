@@ -85,7 +85,8 @@ past before kept r s (inl (b, m, w)) =
 past before kept r s (inr h) = inr (inr h)
 
 -- a read that goes stands in one before or in one that is kept of those behind it
-gone-stays : (before after kept : List (List ℕ)) (r : List ℕ) → All (Stays (before ++ (r ∷ [])) kept) after → T (goes before r after) → Stays before kept r
+gone-stays : (before after kept : List (List ℕ)) (r : List ℕ) → All (Stays (before ++ (r ∷ [])) kept) after → T (goes before r after) →
+    Stays before kept r
 gone-stays before after kept r ih t =
     elim (or-cases (someHolds before r) (someLonger after r) t) [
       | inl h ↦ inl (some-held before r h)
@@ -108,7 +109,8 @@ pick-keeps true before kept r s h = h
 pick-keeps false before kept r s (inl h) = inl h
 pick-keeps false before kept r s (inr (p, m, w)) = inr (p, inr m, w)
 
-stays-here : (t : Bool) (before kept : List (List ℕ)) (r s : List ℕ) → Stays before (cond t kept (r ∷ kept)) r → Stays (before ++ (r ∷ [])) kept s → Stays before (cond t kept (r ∷ kept)) s
+stays-here : (t : Bool) (before kept : List (List ℕ)) (r s : List ℕ) → Stays before (cond t kept (r ∷ kept)) r →
+    Stays (before ++ (r ∷ [])) kept s → Stays before (cond t kept (r ∷ kept)) s
 stays-here t before kept r s hr hs =
     elim (past before kept r s hs) [
       | inl w ↦ stays-trans before (cond t kept (r ∷ kept)) s r w hr
@@ -148,7 +150,8 @@ clear-kept before r s n l = (λ w. not-in (same w), not-in)
     same : Within r s → Within s r
     same w = subst (Within s) (sym (within-same r s (w .0) (w .1) (w .2) (omega (arith, l w)))) (within-self s)
 
-pick-clear : (t : Bool) (r : List ℕ) (rest : List (List ℕ)) → ((T t → ⊥) → All (Clear r) rest) → Pairwise Clear rest → Pairwise Clear (cond t rest (r ∷ rest))
+pick-clear : (t : Bool) (r : List ℕ) (rest : List (List ℕ)) → ((T t → ⊥) → All (Clear r) rest) → Pairwise Clear rest →
+    Pairwise Clear (cond t rest (r ∷ rest))
 pick-clear true r rest p h = h
 pick-clear false r rest p h = (p (λ n. n), h)
 

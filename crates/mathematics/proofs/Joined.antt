@@ -54,7 +54,8 @@ replaced-swap a b z rs rs′ r =
     let (mid, f, s) = taken-swap (r .first) (r .second) in
     record { mid = mid; others = r .others; first = f; second = s; made = r .made }
 
-replaced-at : (lo hi : ℕ) (rs : List (List ℕ)) (z : List ℕ) → lo < hi → hi < length rs → Replaced (getD rs hi []) (getD rs lo []) z rs (without hi (set rs lo z))
+replaced-at : (lo hi : ℕ) (rs : List (List ℕ)) (z : List ℕ) → lo < hi → hi < length rs →
+    Replaced (getD rs hi []) (getD rs lo []) z rs (without hi (set rs lo z))
 replaced-at lo hi rs z l h =
     let at-hi = taken-without hi rs [] h in
     let lo-below : lo < length (without hi rs) = omega (arith, taken-length at-hi) in
@@ -66,10 +67,13 @@ replaced-at lo hi rs z l h =
       made = subst (λ (q : List (List ℕ)). Taken z q (without lo (without hi rs))) (sym (without-set lo hi rs z l)) (taken-set lo (without hi rs) z lo-below);
     }
 
-replaced-order : (i j lo hi : ℕ) (rs : List (List ℕ)) (z : List ℕ) → max i j ≡ hi → min i j ≡ lo → Replaced (getD rs i []) (getD rs j []) z rs (without hi (set rs lo z)) → Replaced (getD rs i []) (getD rs j []) z rs (without (max i j) (set rs (min i j) z))
+replaced-order : (i j lo hi : ℕ) (rs : List (List ℕ)) (z : List ℕ) → max i j ≡ hi → min i j ≡ lo →
+    Replaced (getD rs i []) (getD rs j []) z rs (without hi (set rs lo z)) →
+    Replaced (getD rs i []) (getD rs j []) z rs (without (max i j) (set rs (min i j) z))
 replaced-order i j lo hi rs z e f r = rw (e, f) r
 
-replaced-places : (i j : ℕ) (rs : List (List ℕ)) (z : List ℕ) → i < length rs → j < length rs → (i ≡ j → ⊥) → Replaced (getD rs i []) (getD rs j []) z rs (without (max i j) (set rs (min i j) z))
+replaced-places : (i j : ℕ) (rs : List (List ℕ)) (z : List ℕ) → i < length rs → j < length rs → (i ≡ j → ⊥) →
+    Replaced (getD rs i []) (getD rs j []) z rs (without (max i j) (set rs (min i j) z))
 replaced-places i j rs z k l n =
     elim (decLt i j) [
       | yes h ↦ replaced-order i j i j rs z (omega arith) (omega arith) (replaced-swap (getD rs j []) (getD rs i []) z rs (without j (set rs i z)) (replaced-at i j rs z h l))
@@ -136,7 +140,8 @@ module _ (rs rs′ : List (List ℕ)) (j : Join rs rs′) where
       put-all P (j .replaced .made) (f p q) others
 
   -- what any two of the old ones have: the joined two, and both of them with each other one
-  pub join-old : (R : List ℕ → List ℕ → Type 0) → ((a b : List ℕ) → R a b → R b a) → Pairwise R rs → R left right × All (R left) (j .replaced .others) × All (R right) (j .replaced .others) × Pairwise R (j .replaced .others)
+  pub join-old : (R : List ℕ → List ℕ → Type 0) → ((a b : List ℕ) → R a b → R b a) → Pairwise R rs →
+      R left right × All (R left) (j .replaced .others) × All (R right) (j .replaced .others) × Pairwise R (j .replaced .others)
   join-old R swap h =
       let (a, more) = taken-pairwise R swap (j .replaced .first) h in
       let (b, others) = taken-pairwise R swap (j .replaced .second) more in
@@ -185,7 +190,8 @@ none-longest : (rs : List (List ℕ)) → (T (eqb (longest rs .length) 0) → �
 none-longest rs n e = n (subst (λ (k : ℕ). T (eqb k 0)) (sym e) (eqb-refl 0))
 
 -- what holds of the reads and stays with each join holds at the end
-pub while-keeps : (Q : List (List ℕ) → Type 0) → ((rs rs′ : List (List ℕ)) → Join rs rs′ → Q rs → Q rs′) → (turns : ℕ) (rs : List (List ℕ)) → Q rs → Q (joinWhile turns rs)
+pub while-keeps : (Q : List (List ℕ) → Type 0) → ((rs rs′ : List (List ℕ)) → Join rs rs′ → Q rs → Q rs′) → (turns : ℕ) (rs : List (List ℕ)) →
+    Q rs → Q (joinWhile turns rs)
 while-keeps Q step zero rs h = h
 while-keeps Q step (suc turns) rs h =
     pick-while Q (eqb (longest rs .length) 0) rs (joinWhile turns (joinAt (longest rs) rs))
