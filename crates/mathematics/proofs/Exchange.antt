@@ -216,7 +216,8 @@ module _ {E : Type 0} (G : Graph E) (rs rs′ : List (List ℕ)) (j : Join rs rs
     new-total i =
         let both : through i (A .path) + through i (B .path) ≡ through i newA + through i newB =
         rw (in-A, in-B) (through-exchange i (a ++ j .x) (j .o) b p (j .y ++ q) (j .some-o)) in
-        exchanged-sum (A .weight) (B .weight) (through i (A .path)) (through i (B .path)) (through i newA) (through i newB) (total i W₂) (some-copies .0) (some-copies .1) both ∙
+        exchanged-sum (A .weight) (B .weight) (through i (A .path)) (through i (B .path)) (through i newA) (through i newB)
+        (total i W₂) (some-copies .0) (some-copies .1) both ∙
         omega (arith, taken-total i first, taken-total i second)
 
     new-weight : totalWeight new ≡ totalWeight W

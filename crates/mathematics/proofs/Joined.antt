@@ -63,8 +63,8 @@ replaced-at lo hi rs z l h =
       mid = without hi rs;
       others = without lo (without hi rs);
       first = at-hi;
-      second = subst (λ (r : List ℕ). Taken r (without hi rs) (without lo (without hi rs))) (getD-without lo hi rs [] l) (taken-without lo (without hi rs) [] lo-below);
-      made = subst (λ (q : List (List ℕ)). Taken z q (without lo (without hi rs))) (sym (without-set lo hi rs z l)) (taken-set lo (without hi rs) z lo-below);
+      second = rw (getD-without lo hi rs [] l) at (taken-without lo (without hi rs) [] lo-below);
+      made = rw (without-set lo hi rs z l) (taken-set lo (without hi rs) z lo-below);
     }
 
 replaced-order : (i j lo hi : ℕ) (rs : List (List ℕ)) (z : List ℕ) → max i j ≡ hi → min i j ≡ lo →
@@ -76,7 +76,8 @@ replaced-places : (i j : ℕ) (rs : List (List ℕ)) (z : List ℕ) → i < leng
     Replaced (getD rs i []) (getD rs j []) z rs (without (max i j) (set rs (min i j) z))
 replaced-places i j rs z k l n =
     elim (decLt i j) [
-      | yes h ↦ replaced-order i j i j rs z (omega arith) (omega arith) (replaced-swap (getD rs j []) (getD rs i []) z rs (without j (set rs i z)) (replaced-at i j rs z h l))
+      | yes h ↦ replaced-order i j i j rs z (omega arith) (omega arith)
+          (replaced-swap (getD rs j []) (getD rs i []) z rs (without j (set rs i z)) (replaced-at i j rs z h l))
       | no h ↦ replaced-order i j j i rs z (omega arith) (omega arith) (replaced-at j i rs z (omega arith) k)
     ]
 
@@ -105,7 +106,8 @@ join-at m rs h p most =
       y = met .y;
       some-o = omega arith;
       most = subst (λ (n : ℕ). Pairwise (AtMost n) rs) size most;
-      replaced = subst₃ (λ (a b z : List ℕ). Replaced a b z rs (joinAt m rs)) (met .ends) (met .begin) (joined-read a b (met .x) (met .o) (met .y) (m .length) (met .ends) (met .begin) size)
+      replaced = subst₃ (λ (a b z : List ℕ). Replaced a b z rs (joinAt m rs)) (met .ends) (met .begin)
+          (joined-read a b (met .x) (met .o) (met .y) (m .length) (met .ends) (met .begin) size)
           (replaced-places (m .i) (m .j) rs (a ++ drop (m .length) b) (h .i-below) (h .j-below) (h .differ));
     }
 
