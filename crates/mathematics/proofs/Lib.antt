@@ -1,3 +1,4 @@
 -- The laws, smallest first; the theorems that docs/PROMISES.md names come last.
 pub mod Basics
+pub mod Algebra
 pub mod Examples
