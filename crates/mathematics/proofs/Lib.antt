@@ -1,4 +1,6 @@
 -- The laws, smallest first; the theorems that docs/PROMISES.md names come last.
 pub mod Basics
+pub mod Algebra
+pub mod PriceKinds
 pub mod Examples
 pub mod Network
