@@ -4,3 +4,4 @@ pub mod Algebra
 pub mod PriceKinds
 pub mod Examples
 pub mod Network
+pub mod Tree

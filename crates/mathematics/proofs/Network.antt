@@ -7,6 +7,7 @@ use mathlib.Core.List.{List, [], _∷_, map}
 use mathlib.Core.Bool.{Bool, true, false, cond}
 use mathlib.Core.Logic.{_⊎_, inl, inr, _≢_}
 use lib.Dec.{T, eqb, eqb→eq, eqb-refl}
+use Rattle.mathematics.specs.Price.{Prices, Le, sub}
 use Rattle.mathematics.specs.Lists.{All}
 use Rattle.mathematics.specs.Range.{OneOf}
 use Rattle.mathematics.proofs.Basics.{is-true, is-false}
@@ -131,3 +132,15 @@ module _ {E : Type 0} where
   alter-all Q [] x m k h q = h
   alter-all Q (y ∷ ys) x (inl e) k h q = (q, h .1)
   alter-all Q (y ∷ ys) x (inr m) k h q = (h .0, alter-all Q ys x m k (h .1) q)
+
+module _ (P : Prices) where
+  -- cost plus the mark that the edge comes from, less the mark that it goes to
+  abbrev pub slack : (ℕ → P .El) → Edge (P .El) → P .El
+  slack p e = sub P (P .add (e .cost) (p (e .from))) (p (e .to))
+
+  -- The mark of a node is k edge costs added or taken away, from the root's: a way of k steps from the root, node 0, each along an edge or back along one,
+  -- none to the root.
+  pub data Way (edges : List (Edge (P .El))) (p : ℕ → P .El) : ℕ → ℕ → Type 0 where
+    here : Way edges p 0 0
+    forward : {k : ℕ} (e : Edge (P .El)) → OneOf edges e → Way edges p (e .from) k → e .to ≢ 0 → p (e .to) ≡ P .add (p (e .from)) (e .cost) → Way edges p (e .to) (suc k)
+    backward : {k : ℕ} (e : Edge (P .El)) → OneOf edges e → Way edges p (e .to) k → e .from ≢ 0 → p (e .from) ≡ sub P (p (e .to)) (e .cost) → Way edges p (e .from) (suc k)
