@@ -5,3 +5,5 @@ pub mod PriceKinds
 pub mod Examples
 pub mod Network
 pub mod Tree
+pub mod Shift
+pub mod Grow

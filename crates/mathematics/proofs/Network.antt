@@ -64,6 +64,10 @@ share-below u v k = both (eqb u v)
     both true = omega arith
     both false = omega arith
 
+-- the nodes are the numbers below N that are live
+abbrev pub IsNode : (ℕ → Bool) → ℕ → ℕ → Type 0
+IsNode live N u = (u < N) × T (live u)
+
 -- the amounts of the jobs from u, of those to u, of all
 abbrev pub jobsFrom : List Job → ℕ → ℕ
 jobsFrom [] u = 0
@@ -137,6 +141,13 @@ module _ (P : Prices) where
   -- cost plus the mark that the edge comes from, less the mark that it goes to
   abbrev pub slack : (ℕ → P .El) → Edge (P .El) → P .El
   slack p e = sub P (P .add (e .cost) (p (e .from))) (p (e .to))
+
+  -- a load that may stand: the ends of the edge are nodes, its slack is not below nothing, and is nothing where the edge carries something
+  pub record Sound (live : ℕ → Bool) (N : ℕ) (p : ℕ → P .El) (x : Load (P .El)) : Type 0 where
+    pub from-node : IsNode live N (x .edge .from)
+    pub to-node : IsNode live N (x .edge .to)
+    pub slack-holds : Le P (P .nil) (slack p (x .edge))
+    pub tight : 1 ≤ x .amount → slack p (x .edge) ≡ P .nil
 
   -- The mark of a node is k edge costs added or taken away, from the root's: a way of k steps from the root, node 0, each along an edge or back along one,
   -- none to the root.
