@@ -7,3 +7,4 @@ pub mod Network
 pub mod Tree
 pub mod Shift
 pub mod Grow
+pub mod Push

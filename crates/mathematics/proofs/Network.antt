@@ -117,11 +117,20 @@ module _ {E : Type 0} where
   alter-edges (y ∷ ys) x (inr m) k = ap (λ zs. y .edge ∷ zs) (alter-edges ys x m k)
 
   -- what passes u changes by what the altered edge changes by
-  pub alter-passing : (side : Edge E → ℕ) (loads : List (Load E)) (x : Load E) (m : OneOf loads x) (k u : ℕ) →
+  alter-passing : (side : Edge E → ℕ) (loads : List (Load E)) (x : Load E) (m : OneOf loads x) (k u : ℕ) →
       passing side (alter loads x m k) u + share u (side (x .edge)) (x .amount) ≡ passing side loads u + share u (side (x .edge)) k
   alter-passing side [] x m k u = absurd m
   alter-passing side (y ∷ ys) x (inl e) k u = omega (arith, ap (λ (z : Load E). share u (side (z .edge)) (z .amount)) e)
   alter-passing side (y ∷ ys) x (inr m) k u = omega (arith, alter-passing side ys x m k u)
+
+  pub alter-more : (side : Edge E → ℕ) (loads : List (Load E)) (x : Load E) (m : OneOf loads x) (k u : ℕ) →
+      passing side (alter loads x m (x .amount + k)) u ≡ passing side loads u + share u (side (x .edge)) k
+  alter-more side loads x m k u = omega (arith, alter-passing side loads x m (x .amount + k) u, share-sum u (side (x .edge)) (x .amount) k)
+
+  pub alter-less : (side : Edge E → ℕ) (loads : List (Load E)) (x : Load E) (m : OneOf loads x) (j k u : ℕ) → j + k ≡ x .amount →
+      passing side (alter loads x m j) u + share u (side (x .edge)) k ≡ passing side loads u
+  alter-less side loads x m j k u e =
+      omega (arith, alter-passing side loads x m j u, share-sum u (side (x .edge)) j k, ap (share u (side (x .edge))) e)
 
   -- every other load stays
   pub alter-keeps : (loads : List (Load E)) (x : Load E) (m : OneOf loads x) (k : ℕ) (y : Load E) → y ≢ x → OneOf loads y → OneOf (alter loads x m k) y
