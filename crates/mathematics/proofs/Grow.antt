@@ -1,19 +1,18 @@
 -- From any node a tree grows over all nodes, with marks raised outside the tree as it needs: one node at each step, so as many steps as there are nodes.
-use Prim.Native.Nat.{ℕ, zero, suc, _+_, _≤_, _<_}
+use Prim.Native.Nat.{ℕ, zero, suc, _+_, _≤_}
 use native.Mathlib.Omega.{arith}
-use mathlib.Core.Path.{_≡_, refl, sym, ap, subst, _∙_}
-use mathlib.Core.List.{List, [], _∷_, map}
-use mathlib.Core.Bool.{Bool, true, false, cond, not, _&&_}
-use mathlib.Core.Logic.{_⊎_, inl, inr, _≢_}
+use mathlib.Core.Path.{_≡_, refl, _∙_}
+use mathlib.Core.List.{List, [], _∷_}
+use mathlib.Core.Bool.{Bool, not, _&&_}
+use mathlib.Core.Logic.{_⊎_, inl, inr}
 use lib.Dec.{T, T-not, not-T, leb, leb→le}
 use lib.ListN.{length}
-use Rattle.mathematics.specs.Price.{Prices, Ordered, Le, sub}
+use Rattle.mathematics.specs.Price.{Prices, Ordered, Le}
 use Rattle.mathematics.specs.Lists.{All}
 use Rattle.mathematics.specs.Range.{OneOf}
 use Rattle.mathematics.proofs.Basics.{and-in, and-l, and-r, all-among, all-from, all-weaken, test}
-use Rattle.mathematics.proofs.Algebra.{sub-of-eq}
 use Rattle.mathematics.proofs.Network.{Edge, Load, IsNode, Sound, slack, edgesOf, Walk, stop, step}
-use Rattle.mathematics.proofs.Tree.{member, member-here, outside, outside-below, outside-join, Lacks, HasAll, lacking, Tree, seed, forth, back, seed-in, under-other-marks}
+use Rattle.mathematics.proofs.Tree.{member, outside, outside-below, outside-join, Lacks, HasAll, lacking, Tree, seed, forth, back, seed-in, under-other-marks}
 use Rattle.mathematics.proofs.Shift.{raise, raise-inside, leaves, enters, raise-sound, raise-tight}
 
 -- one of the list that passes the test, unless none does
@@ -163,24 +162,26 @@ module _ (P : Prices) (L : Ordered P) where
   from-there live N loads p q s e g =
       record { marks = g .marks; nodes = g .nodes; tree = g .tree; all-nodes = g .all-nodes; few = g .few; sound = g .sound; kept = g .kept ∙ e }
 
+  -- S is all, or there is more to do
+  when-all : (live : ℕ → Bool) (N : ℕ) (loads : List (Load (P .El))) (p : ℕ → P .El) (s : ℕ) (S : List ℕ) → length S + outside live S N ≤ N → All (Sound P live N p) loads →
+      Tree P loads p s S → (Lacks live S N → Grown P live N loads p s) → Grown P live N loads p s
+  when-all live N loads p s S count h tree more = elim (lacking live S N) [
+    | inl r ↦ more r
+    | inr all ↦ record { marks = p; nodes = S; tree = tree; all-nodes = all; few = omega arith; sound = h; kept = refl }
+  ]
+
   -- as many steps as there are nodes outside
   grow-on : (steps : ℕ) (live : ℕ → Bool) (N : ℕ) (loads : List (Load (P .El))) (p : ℕ → P .El) (s : ℕ) (S : List ℕ) → outside live S N ≤ steps → length S + outside live S N ≤ N →
       ((w : ℕ) → IsNode live N w → Walk (edgesOf loads) s w) → All (Sound P live N p) loads → Tree P loads p s S → Grown P live N loads p s
-  grow-on zero live N loads p s S few count walks h tree = go (lacking live S N)
-    where
-      go : Lacks live S N ⊎ HasAll live S N → Grown P live N loads p s
-      go (inl r) = absurd (omega (arith, outside-join live S (r .0) N (r .1) (r .2) (r .3)))
-      go (inr all) = record { marks = p; nodes = S; tree = tree; all-nodes = all; few = omega arith; sound = h; kept = refl }
-  grow-on (suc steps) live N loads p s S few count walks h tree = go (lacking live S N) (λ q T₀ a b c d. grow-on steps live N loads q s T₀ a b walks c d)
-    where
-      go : Lacks live S N ⊎ HasAll live S N →
-          ((q : ℕ → P .El) (T₀ : List ℕ) → outside live T₀ N ≤ steps → length T₀ + outside live T₀ N ≤ N → All (Sound P live N q) loads → Tree P loads q s T₀ → Grown P live N loads q s) →
-          Grown P live N loads p s
-      go (inl r) rec =
-          let e = extend live N loads p s S h tree (r .0) (walks (r .0) (r .1, r .2)) (r .3) in
-          let fewer = outside-join live S (e .new) N (e .new-node .0) (e .new-node .1) (e .not-in) in
-          from-there live N loads p (e .marks) s (e .kept) (rec (e .marks) (e .new ∷ S) (omega (arith, fewer)) (omega (arith, fewer)) (e .sound) (e .tree))
-      go (inr all) rec = record { marks = p; nodes = S; tree = tree; all-nodes = all; few = omega arith; sound = h; kept = refl }
+  grow-on zero live N loads p s S few count walks h tree =
+      when-all live N loads p s S count h tree (λ r. absurd (omega (arith, outside-join live S (r .0) N (r .1) (r .2) (r .3))))
+  grow-on (suc steps) live N loads p s S few count walks h tree =
+      when-all live N loads p s S count h tree
+      (λ r.
+      let e = extend live N loads p s S h tree (r .0) (walks (r .0) (r .1, r .2)) (r .3) in
+      let fewer = outside-join live S (e .new) N (e .new-node .0) (e .new-node .1) (e .not-in) in
+      from-there live N loads p (e .marks) s (e .kept)
+      (grow-on steps live N loads (e .marks) s (e .new ∷ S) (omega (arith, fewer)) (omega (arith, fewer)) walks (e .sound) (e .tree)))
 
   -- from a node with walks to all nodes a tree grows over all nodes
   pub grow : (live : ℕ → Bool) (N : ℕ) (loads : List (Load (P .El))) (p : ℕ → P .El) (s : ℕ) → IsNode live N s → ((w : ℕ) → IsNode live N w → Walk (edgesOf loads) s w) →

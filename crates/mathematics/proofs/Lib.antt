@@ -8,3 +8,4 @@ pub mod Tree
 pub mod Shift
 pub mod Grow
 pub mod Push
+pub mod Transport

@@ -1,11 +1,11 @@
 -- A bare network: edges with costs and no capacities, jobs that carry amounts between nodes, loads on the edges. The definitions that Transport.antt
 -- states its theorem with, and the laws of a load that is altered at one edge.
-use Prim.Native.Nat.{ℕ, zero, suc, _+_, _≤_, _<_}
+use Prim.Native.Nat.{ℕ, suc, _+_, _≤_, _<_}
 use native.Mathlib.Omega.{arith}
-use mathlib.Core.Path.{_≡_, refl, sym, ap, ap₂, _∙_}
+use mathlib.Core.Path.{_≡_, refl, sym, ap, _∙_}
 use mathlib.Core.List.{List, [], _∷_, map}
 use mathlib.Core.Bool.{Bool, true, false, cond}
-use mathlib.Core.Logic.{_⊎_, inl, inr, _≢_}
+use mathlib.Core.Logic.{inl, inr, _≢_}
 use lib.Dec.{T, eqb, eqb→eq, eqb-refl}
 use Rattle.mathematics.specs.Price.{Prices, Le, sub}
 use Rattle.mathematics.specs.Lists.{All}
@@ -150,6 +150,15 @@ module _ (P : Prices) where
   -- cost plus the mark that the edge comes from, less the mark that it goes to
   abbrev pub slack : (ℕ → P .El) → Edge (P .El) → P .El
   slack p e = sub P (P .add (e .cost) (p (e .from))) (p (e .to))
+
+  -- The root, 0, is a node; edges go between nodes and no cost is below nothing; each node is reached from the root and reaches it.
+  pub record IsNetwork (live : ℕ → Bool) (N : ℕ) (edges : List (Edge (P .El))) : Type 0 where
+    pub root-node : IsNode live N 0
+    pub from-nodes : All (λ e. IsNode live N (e .from)) edges
+    pub to-nodes : All (λ e. IsNode live N (e .to)) edges
+    pub costs-hold : All (λ e. Le P (P .nil) (e .cost)) edges
+    pub from-root : (u : ℕ) → IsNode live N u → Walk edges 0 u
+    pub to-root : (u : ℕ) → IsNode live N u → Walk edges u 0
 
   -- a load that may stand: the ends of the edge are nodes, its slack is not below nothing, and is nothing where the edge carries something
   pub record Sound (live : ℕ → Bool) (N : ℕ) (p : ℕ → P .El) (x : Load (P .El)) : Type 0 where

@@ -1,17 +1,17 @@
 -- A push of k units from the seed of a tree to one of its nodes, along the tree: forth along an edge its load grows by k, back along an edge it falls by k.
-use Prim.Native.Nat.{ℕ, zero, suc, _+_, _-_, _≤_, _<_, min}
+use Prim.Native.Nat.{ℕ, _+_, _-_, _≤_, min}
 use native.Mathlib.Omega.{arith}
 use native.Mathlib.Nat.{le-refl}
-use mathlib.Core.Path.{_≡_, refl, sym, ap, subst, _∙_}
+use mathlib.Core.Path.{_≡_, refl, sym, _∙_}
 use mathlib.Core.List.{List, [], _∷_}
-use mathlib.Core.Bool.{Bool, true, false, _&&_}
-use mathlib.Core.Logic.{_⊎_, inl, inr, _≢_}
+use mathlib.Core.Bool.{Bool}
+use mathlib.Core.Logic.{inl, inr}
 use lib.Dec.{T, eqb, eqb→eq, eqb-refl}
-use Rattle.mathematics.specs.Price.{Prices, Le}
+use Rattle.mathematics.specs.Price.{Prices}
 use Rattle.mathematics.specs.Lists.{All}
 use Rattle.mathematics.specs.Range.{OneOf}
 use Rattle.mathematics.proofs.Basics.{all-among, test}
-use Rattle.mathematics.proofs.Network.{Edge, Load, IsNode, Sound, slack, edgesOf, leaving, entering, passing, share, share-other, share-below, alter, alter-edges, alter-more, alter-less, alter-keeps, alter-all}
+use Rattle.mathematics.proofs.Network.{Load, Sound, slack, edgesOf, leaving, entering, share, share-other, share-below, alter, alter-edges, alter-more, alter-less, alter-keeps, alter-all}
 use Rattle.mathematics.proofs.Tree.{member, member-here, member-there, member-cases, Tree, seed, forth, back}
 
 module _ (P : Prices) where

@@ -1,15 +1,14 @@
 -- Marks are raised by d outside a set S of nodes: what that does to slacks. Where d is at most the slack of every edge that leaves S, and no edge that
 -- enters S carries anything, every load stays sound.
-use Prim.Native.Nat.{ℕ, zero, suc, _+_, _≤_, _<_}
-use mathlib.Core.Path.{_≡_, refl, sym, ap, ap₂, subst, _∙_}
-use mathlib.Core.List.{List, [], _∷_}
+use Prim.Native.Nat.{ℕ, _≤_}
+use mathlib.Core.Path.{_≡_, sym, ap, ap₂, _∙_}
+use mathlib.Core.List.{List}
 use mathlib.Core.Bool.{Bool, true, false, cond, not, _&&_}
 use lib.Dec.{T, leb, le→leb}
 use Rattle.mathematics.specs.Price.{Prices, Ordered, Le, sub}
-use Rattle.mathematics.specs.Lists.{All}
 use Rattle.mathematics.proofs.Basics.{is-true, is-false}
 use Rattle.mathematics.proofs.Algebra.{swap-middle, neg-add, nil-le-add, sub-holds, sub-of-eq}
-use Rattle.mathematics.proofs.Network.{Edge, Load, IsNode, Sound, slack}
+use Rattle.mathematics.proofs.Network.{Edge, Load, Sound, slack}
 use Rattle.mathematics.proofs.Tree.{member}
 
 module _ (P : Prices) where

@@ -3,16 +3,16 @@
 use Prim.Native.Nat.{ℕ, zero, suc, _+_, _≤_, _<_}
 use native.Mathlib.Omega.{arith}
 use native.Mathlib.Nat.{le-refl}
-use mathlib.Core.Path.{_≡_, refl, sym, ap, ap₂, subst, _∙_}
-use mathlib.Core.List.{List, [], _∷_, map}
-use mathlib.Core.Bool.{Bool, true, false, cond, not, _&&_, _||_}
+use mathlib.Core.Path.{_≡_, refl, sym, ap, ap₂, _∙_}
+use mathlib.Core.List.{List, [], _∷_}
+use mathlib.Core.Bool.{Bool, true, false, not, _&&_, _||_}
 use mathlib.Core.Logic.{_⊎_, inl, inr, _≢_}
 use lib.Dec.{T, T-not, eqb, eqb→eq, eqb-refl}
 use lib.ListN.{length}
-use Rattle.mathematics.specs.Price.{Prices, Ordered, Le, sub}
+use Rattle.mathematics.specs.Price.{Prices, Ordered}
 use Rattle.mathematics.specs.Cover.{oneIf}
 use Rattle.mathematics.specs.Range.{OneOf}
-use Rattle.mathematics.proofs.Basics.{or-cases, or-l, or-r, and-in, and-l, and-r, among-map, is-true, is-false, test}
+use Rattle.mathematics.proofs.Basics.{or-cases, or-l, or-r, and-l, and-r, among-map, is-false, test}
 use Rattle.mathematics.proofs.Algebra.{eq-of-sub, sub-from}
 use Rattle.mathematics.proofs.Network.{Edge, Load, edgesOf, slack, Way, here, forward, backward}
 
