@@ -90,7 +90,11 @@ module _ (P : Prices) (L : Ordered P) where
             passes = ty;
             among = inr (inl refl);
             below-first = L .le-trans (f y) (f (r .one)) (f x) b (r .below-first);
-            below = (λ u. L .le-refl (f y), all-weaken (λ w. T (t w) → Le P (f (r .one)) (f w)) (λ w. T (t w) → Le P (f y) (f w)) ys (λ w k u. L .le-trans (f y) (f (r .one)) (f w) b (k u)) (r .below));
+            below = (
+              λ u. L .le-refl (f y),
+              all-weaken (λ w. T (t w) → Le P (f (r .one)) (f w)) (λ w. T (t w) → Le P (f y) (f w)) ys
+                  (λ w k u. L .le-trans (f y) (f (r .one)) (f w) b (k u)) (r .below),
+            );
           }
 
       go : Least P f t x ys → T (t y) ⊎ (T (t y) → ⊥) → Least P f t x (y ∷ ys)

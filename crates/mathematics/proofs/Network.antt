@@ -173,3 +173,7 @@ module _ (P : Prices) where
     here : Way edges p 0 0
     forward : {k : ℕ} (e : Edge (P .El)) → OneOf edges e → Way edges p (e .from) k → e .to ≢ 0 → p (e .to) ≡ P .add (p (e .from)) (e .cost) → Way edges p (e .to) (suc k)
     backward : {k : ℕ} (e : Edge (P .El)) → OneOf edges e → Way edges p (e .to) k → e .from ≢ 0 → p (e .from) ≡ sub P (p (e .to)) (e .cost) → Way edges p (e .from) (suc k)
+
+  -- a way of fewer than n steps
+  abbrev pub WayWithin : List (Edge (P .El)) → (ℕ → P .El) → ℕ → ℕ → Type 0
+  WayWithin edges p n u = (k : ℕ) × (k < n) × Way edges p u k

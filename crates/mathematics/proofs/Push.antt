@@ -62,7 +62,8 @@ module _ (P : Prices) where
           beyond = λ x o m. r .beyond x (λ i. o (member-there w S (x .edge .from) (i .0), member-there w S (x .edge .to) (i .1))) m;
         }
 
-    push-forth : (x : Load (P .El)) (k : ℕ) → Sound P live N p x → OneOf loads x → slack P p (x .edge) ≡ P .nil → T (member S (x .edge .from)) → (T (member S (x .edge .to)) → ⊥) →
+    push-forth : (x : Load (P .El)) (k : ℕ) → Sound P live N p x → OneOf loads x → slack P p (x .edge) ≡ P .nil → T (member S (x .edge .from)) →
+        (T (member S (x .edge .to)) → ⊥) →
         Pushed live N p loads s S (x .edge .from) k → Pushed live N p loads s (x .edge .to ∷ S) (x .edge .to) k
     push-forth x k ok m z i o r =
         record {
@@ -73,7 +74,13 @@ module _ (P : Prices) where
               (record { from-node = ok .from-node; to-node = ok .to-node; slack-holds = ok .slack-holds; tight = λ c. z });
           moved = λ v. omega (arith, r .moved v, sends v, receives v);
           at-most = at-most;
-          quiet = λ v q. omega (arith, sends v, r .quiet v (λ j. absurd (o (rw (q (member-there t S v j)) at j))), share-other v f k (λ e. o (rw (q (member-there t S v (rw e i))) at (rw (sym e) at i))));
+          quiet = λ v q.
+              omega (
+                arith,
+                sends v,
+                r .quiet v (λ j. absurd (o (rw (q (member-there t S v j)) at j))),
+                share-other v f k (λ e. o (rw (q (member-there t S v (rw e i))) at (rw (sym e) at i))),
+              );
           beyond = λ y out n. alter-keeps (r .after) x here (x .amount + k) y (λ e. out (rw e (member-there t S f i, member-here t S)))
               (r .beyond y (λ j. out (member-there t S (y .edge .from) (j .0), member-there t S (y .edge .to) (j .1))) n);
         }
@@ -100,7 +107,8 @@ module _ (P : Prices) where
               | inr d ↦ omega (arith, sends v, r .at-most v, share-other v f k (λ e. d (rw e (eqb-refl f))))
             ]
 
-    push-back : (x : Load (P .El)) (j k : ℕ) → j + k ≡ x .amount → Sound P live N p x → OneOf loads x → slack P p (x .edge) ≡ P .nil → T (member S (x .edge .to)) → (T (member S (x .edge .from)) → ⊥) →
+    push-back : (x : Load (P .El)) (j k : ℕ) → j + k ≡ x .amount → Sound P live N p x → OneOf loads x → slack P p (x .edge) ≡ P .nil → T (member S (x .edge .to)) →
+        (T (member S (x .edge .from)) → ⊥) →
         Pushed live N p loads s S (x .edge .to) k → Pushed live N p loads s (x .edge .from ∷ S) (x .edge .from) k
     push-back x j k rest ok m z i o r =
         record {
@@ -142,12 +150,14 @@ module _ (P : Prices) where
       | inr f ↦ absurd f
     ]
 
-    room-forth : (n : ℕ) (S : List ℕ) (x : Load (P .El)) → Sound P live N p x → OneOf loads x → slack P p (x .edge) ≡ P .nil → T (member S (x .edge .from)) → (T (member S (x .edge .to)) → ⊥) →
+    room-forth : (n : ℕ) (S : List ℕ) (x : Load (P .El)) → Sound P live N p x → OneOf loads x → slack P p (x .edge) ≡ P .nil → T (member S (x .edge .from)) →
+        (T (member S (x .edge .to)) → ⊥) →
         Room live N p loads s S (x .edge .from) n → Room live N p loads s (x .edge .to ∷ S) (x .edge .to) n
     room-forth n S x ok m z i o r =
         record { room = r .room; some-room = r .some-room; room-below = r .room-below; push = λ k b. push-forth live N p loads s S x k ok m z i o (r .push k b) }
 
-    room-back : (n : ℕ) (S : List ℕ) (x : Load (P .El)) → Sound P live N p x → OneOf loads x → slack P p (x .edge) ≡ P .nil → T (member S (x .edge .to)) → (T (member S (x .edge .from)) → ⊥) → 1 ≤ x .amount →
+    room-back : (n : ℕ) (S : List ℕ) (x : Load (P .El)) → Sound P live N p x → OneOf loads x → slack P p (x .edge) ≡ P .nil → T (member S (x .edge .to)) →
+        (T (member S (x .edge .from)) → ⊥) → 1 ≤ x .amount →
         Room live N p loads s S (x .edge .to) n → Room live N p loads s (x .edge .from ∷ S) (x .edge .from) n
     room-back n S x ok m z i o c r =
         record {

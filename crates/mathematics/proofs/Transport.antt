@@ -10,8 +10,8 @@ use Rattle.mathematics.specs.Price.{Prices, Ordered, Le}
 use Rattle.mathematics.specs.Lists.{All}
 use Rattle.mathematics.proofs.Basics.{all-weaken}
 use Rattle.mathematics.proofs.Algebra.{sub-nil}
-use Rattle.mathematics.proofs.Network.{Edge, Load, Job, IsNode, IsNetwork, Sound, edgesOf, passing, leaving, entering, jobsFrom, jobsTo, jobsTotal, share, share-sum, share-nothing, Walk, stop, step, Way}
-use Rattle.mathematics.proofs.Tree.{WayWithin, ways}
+use Rattle.mathematics.proofs.Network.{Edge, Load, Job, IsNode, IsNetwork, Sound, edgesOf, passing, leaving, entering, jobsFrom, jobsTo, jobsTotal, share, share-sum, share-nothing, Walk, stop, step, Way, WayWithin}
+use Rattle.mathematics.proofs.Tree.{ways}
 use Rattle.mathematics.proofs.Shift.{raise-all-sound}
 use Rattle.mathematics.proofs.Grow.{Grown, grow}
 use Rattle.mathematics.proofs.Push.{room-to}
