@@ -9,3 +9,6 @@ pub mod Shift
 pub mod Grow
 pub mod Push
 pub mod Transport
+pub mod Merge
+pub mod Reach
+pub mod Existence
