@@ -2,4 +2,6 @@
 pub mod Basics
 pub mod Algebra
 pub mod PriceKinds
+pub mod Items
+pub mod Telescope
 pub mod Examples
