@@ -4,4 +4,5 @@ pub mod Algebra
 pub mod PriceKinds
 pub mod Items
 pub mod Telescope
+pub mod Totals
 pub mod Examples
