@@ -5,4 +5,5 @@ pub mod PriceKinds
 pub mod Items
 pub mod Telescope
 pub mod Totals
+pub mod LowerBound
 pub mod Examples
