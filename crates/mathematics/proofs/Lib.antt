@@ -6,4 +6,5 @@ pub mod Items
 pub mod Telescope
 pub mod Totals
 pub mod LowerBound
+pub mod Limits
 pub mod Examples
