@@ -8,3 +8,6 @@ pub mod Totals
 pub mod LowerBound
 pub mod Limits
 pub mod Examples
+pub mod Merge
+pub mod Reach
+pub mod Existence
