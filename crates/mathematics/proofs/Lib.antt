@@ -2,12 +2,12 @@
 pub mod Basics
 pub mod Algebra
 pub mod PriceKinds
+pub mod Merge
+pub mod Reach
+pub mod Existence
 pub mod Items
 pub mod Telescope
 pub mod Totals
 pub mod LowerBound
 pub mod Limits
 pub mod Examples
-pub mod Merge
-pub mod Reach
-pub mod Existence

@@ -3,19 +3,19 @@ use Prim.Native.Nat.{ℕ, _+_, _≤_}
 use native.Mathlib.Omega.{arith}
 use mathlib.Core.Path.{_≡_, refl, sym, ap, subst, subst₂, _∙_}
 use mathlib.Core.List.{List, [], _∷_}
-use mathlib.Core.Bool.{_&&_}
 use mathlib.Core.Logic.{_⊎_, inl, inr}
 use lib.Dec.{T}
 use lib.ListN.{length}
 use Rattle.mathematics.specs.Price.{Prices, Le, times, Ordered}
 use Rattle.mathematics.specs.Lists.{All, lastOf}
-use Rattle.mathematics.specs.Graph.{Graph, isStart, isEnd, isPath, linked, WellFormed}
+use Rattle.mathematics.specs.Graph.{Graph, isPath, linked, WellFormed}
 use Rattle.mathematics.specs.Cover.{Item, Ask, asks, Weighted, total, price}
 use Rattle.mathematics.specs.Bound.{readsThrough, rest, Marks, startSlack, endSlack, SlacksHold, boundWith}
 use Rattle.mathematics.specs.Range.{OneOf}
-use Rattle.mathematics.proofs.Basics.{and-l, and-r, all-among, all-from, all-weaken}
+use Rattle.mathematics.proofs.Basics.{all-among, all-from, all-weaken}
 use Rattle.mathematics.proofs.Algebra
 use Rattle.mathematics.proofs.Algebra.{sumBy}
+use Rattle.mathematics.proofs.Reach.{path-start, path-end}
 use Rattle.mathematics.proofs.Items.{asks-known}
 use Rattle.mathematics.proofs.Telescope.{itemSlack, slacksAtEnds, start-slack-holds, end-slack-holds, item-slack-holds}
 use Rattle.mathematics.proofs.Totals.{countedSum, price-from-slacks, bound-from-slacks}
@@ -29,8 +29,8 @@ module _ (P : Prices) (L : Ordered P) (G : Graph (P .El)) (g : WellFormed G) (m 
   ends-hold : SlacksHold P G m → (p : List ℕ) → T (isPath G p) → Le P (P .nil) (slacksAtEnds P G m p)
   ends-hold s [] t = absurd t
   ends-hold s (v ∷ p) t =
-      Algebra.nil-le-add P L (startSlack P G m v) (endSlack P m (lastOf v p)) (start-slack-holds P L G m s v (and-l (isStart G v) _ t))
-      (end-slack-holds P L G m s (lastOf v p) (and-r (linked (G .arcs) (v ∷ p)) _ (and-r (isStart G v) (linked (G .arcs) (v ∷ p) && isEnd G (lastOf v p)) t)))
+      Algebra.nil-le-add P L (startSlack P G m v) (endSlack P m (lastOf v p)) (start-slack-holds P L G m s v (path-start G v p t))
+      (end-slack-holds P L G m s (lastOf v p) (path-end G v p t))
 
   -- the bound with rs for the prepared reads lies below each list of weighted paths that meets the demands and has room for rs
   pub bound-below : SlacksHold P G m → (rs : List (List ℕ)) → All (λ r. (2 ≤ length r) × T (linked (G .arcs) r)) rs → (W : List Weighted) →
