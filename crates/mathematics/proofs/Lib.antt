@@ -9,5 +9,6 @@ pub mod Items
 pub mod Telescope
 pub mod Totals
 pub mod LowerBound
+pub mod Lowest
 pub mod Limits
 pub mod Examples
