@@ -9,8 +9,9 @@ use lib.ListN.{length}
 use Rattle.mathematics.specs.Price.{Prices, Le, times, Ordered}
 use Rattle.mathematics.specs.Lists.{All, lastOf}
 use Rattle.mathematics.specs.Graph.{Graph, isPath, linked, WellFormed}
-use Rattle.mathematics.specs.Cover.{Item, Ask, asks, Weighted, total, price}
-use Rattle.mathematics.specs.Bound.{readsThrough, rest, Marks, startSlack, endSlack, SlacksHold, boundWith}
+use Rattle.mathematics.specs.Cover.{Item, Ask, asks, Weighted, total, IsCover, price}
+use Rattle.mathematics.specs.Bound.{readsThrough, rest, Marks, startSlack, endSlack, SlacksHold, boundWith, bound}
+use Rattle.mathematics.specs.Prepare.{prepare}
 use Rattle.mathematics.specs.Range.{OneOf}
 use Rattle.mathematics.proofs.Basics.{all-among, all-from, all-weaken}
 use Rattle.mathematics.proofs.Algebra
@@ -63,6 +64,13 @@ module _ (P : Prices) (L : Ordered P) (G : Graph (P .El)) (g : WellFormed G) (m 
           let r : readsThrough (a .item) rs ≤ total (a .item) W = room (a .item) in
           Algebra.times-mono P L (rest rs (a .item) (a .demand) + readsThrough (a .item) rs) (total (a .item) W) (itemSlack P G m (a .item)) (omega arith)
           (item-slack-holds P L G m s g (a .item) (all-among (λ b. _) (asks G) a (asks-known G) k))
+
+  -- "In that case no cover's price is below the bound", for covers of the original reads, given that every cover has room for the prepared reads
+  pub bound-below-cover : All (λ r. (2 ≤ length r) × T (linked (G .arcs) r)) (prepare (G .reads)) →
+      ((W : List Weighted) → IsCover G W → (i : Item) → readsThrough i (prepare (G .reads)) ≤ total i W) →
+      SlacksHold P G m → (W : List Weighted) → IsCover G W → Le P (bound P G m) (price P G W)
+  unfolding bound
+  bound-below-cover h room s W c = bound-below s (prepare (G .reads)) h W (c .are-paths) (c .demands-met) (room W c)
 
   -- a list of weighted paths meets the bound where each item's total is its rest and its reads or its slack is nothing, and so are the slacks at the ends
   pub bound-met : (rs : List (List ℕ)) → All (λ r. (2 ≤ length r) × T (linked (G .arcs) r)) rs → (W : List Weighted) →
