@@ -2,6 +2,12 @@
 pub mod Basics
 pub mod Algebra
 pub mod PriceKinds
+pub mod Network
+pub mod Tree
+pub mod Shift
+pub mod Grow
+pub mod Push
+pub mod Transport
 pub mod Merge
 pub mod Reach
 pub mod Existence
