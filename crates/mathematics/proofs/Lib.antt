@@ -11,6 +11,17 @@ pub mod Transport
 pub mod Merge
 pub mod Reach
 pub mod Existence
+pub mod WithReads
+pub mod Parts
+pub mod Overlap
+pub mod Taken
+pub mod Dropped
+pub mod Longest
+pub mod Joined
+pub mod Linked
+pub mod Exchange
+pub mod Prepared
+pub mod Room
 pub mod Items
 pub mod Telescope
 pub mod Totals
