@@ -17,6 +17,8 @@ use Rattle.mathematics.proofs.Basics.{all-among, all-from, all-weaken}
 use Rattle.mathematics.proofs.Algebra
 use Rattle.mathematics.proofs.Algebra.{sumBy}
 use Rattle.mathematics.proofs.Reach.{path-start, path-end}
+use Rattle.mathematics.proofs.Prepared.{prepared-independent, prepared-linked, cover-can-hold-prepared}
+use Rattle.mathematics.proofs.Room.{room-for-reads}
 use Rattle.mathematics.proofs.Items.{asks-known}
 use Rattle.mathematics.proofs.Telescope.{itemSlack, slacksAtEnds, start-slack-holds, end-slack-holds, item-slack-holds}
 use Rattle.mathematics.proofs.Totals.{countedSum, price-from-slacks, bound-from-slacks}
@@ -25,6 +27,12 @@ use Rattle.mathematics.proofs.Totals.{countedSum, price-from-slacks, bo
 abbrev pub EndsMeet : (P : Prices) → Graph (P .El) → Marks (P .El) → List ℕ → Type 0
 EndsMeet P G m [] = Unit {0}
 EndsMeet P G m (v ∷ p) = (startSlack P G m v ≡ P .nil) × (endSlack P m (lastOf v p) ≡ P .nil)
+
+-- every cover of the graph has room for the prepared reads, since a cover with the same totals holds them
+room-for-prepared : {E : Type 0} (G : Graph E) → WellFormed G → (W : List Weighted) → IsCover G W → (i : Item) → readsThrough i (prepare (G .reads)) ≤ total i W
+room-for-prepared G g W c i =
+    let (U, held, same, copies) = cover-can-hold-prepared G g W c in
+    subst (λ n. readsThrough i (prepare (G .reads)) ≤ n) (same i) (room-for-reads G g (prepare (G .reads)) U (prepared-independent (G .reads)) held i)
 
 module _ (P : Prices) (L : Ordered P) (G : Graph (P .El)) (g : WellFormed G) (m : Marks (P .El)) where
   ends-hold : SlacksHold P G m → (p : List ℕ) → T (isPath G p) → Le P (P .nil) (slacksAtEnds P G m p)
@@ -65,12 +73,11 @@ module _ (P : Prices) (L : Ordered P) (G : Graph (P .El)) (g : WellFormed G) (m 
           Algebra.times-mono P L (rest rs (a .item) (a .demand) + readsThrough (a .item) rs) (total (a .item) W) (itemSlack P G m (a .item)) (omega arith)
           (item-slack-holds P L G m s g (a .item) (all-among (λ b. _) (asks G) a (asks-known G) k))
 
-  -- "In that case no cover's price is below the bound", for covers of the original reads, given that every cover has room for the prepared reads
-  pub bound-below-cover : All (λ r. (2 ≤ length r) × T (linked (G .arcs) r)) (prepare (G .reads)) →
-      ((W : List Weighted) → IsCover G W → (i : Item) → readsThrough i (prepare (G .reads)) ≤ total i W) →
-      SlacksHold P G m → (W : List Weighted) → IsCover G W → Le P (bound P G m) (price P G W)
+  -- "In that case no cover's price is below the bound; that is to be shown for covers of the original reads."
+  pub bound-below-cover : SlacksHold P G m → (W : List Weighted) → IsCover G W → Le P (bound P G m) (price P G W)
   unfolding bound
-  bound-below-cover h room s W c = bound-below s (prepare (G .reads)) h W (c .are-paths) (c .demands-met) (room W c)
+  bound-below-cover s W c =
+      bound-below s (prepare (G .reads)) (prepared-linked G g) W (c .are-paths) (c .demands-met) (room-for-prepared G g W c)
 
   -- a list of weighted paths meets the bound where each item's total is its rest and its reads or its slack is nothing, and so are the slacks at the ends
   pub bound-met : (rs : List (List ℕ)) → All (λ r. (2 ≤ length r) × T (linked (G .arcs) r)) rs → (W : List Weighted) →
