@@ -2,7 +2,6 @@
 pub mod Basics
 pub mod Algebra
 pub mod PriceKinds
-pub mod Examples
 pub mod Network
 pub mod Tree
 pub mod Shift
@@ -23,3 +22,10 @@ pub mod Linked
 pub mod Exchange
 pub mod Prepared
 pub mod Room
+pub mod Items
+pub mod Telescope
+pub mod Totals
+pub mod LowerBound
+pub mod Lowest
+pub mod Limits
+pub mod Examples
