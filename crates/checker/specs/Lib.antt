@@ -3,3 +3,4 @@ pub mod Limits
 pub mod GraphForm
 pub mod GraphFaults
 pub mod GraphOf
+pub mod ArcTable
