@@ -3,4 +3,5 @@ pub mod Limits
 pub mod GraphForm
 pub mod GraphFaults
 pub mod GraphOf
+pub mod GraphReads
 pub mod ArcTable
