@@ -2,3 +2,4 @@
 pub mod Scan
 pub mod HeaderLaws
 pub mod RecordLaws
+pub mod ArcLaws
