@@ -26,3 +26,5 @@ impl Header {
         }
     }
 }
+
+mod reads;
