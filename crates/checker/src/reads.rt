@@ -50,3 +50,24 @@ fn same_run(
     }
     true
 }
+
+// Whether the read of row i is a consecutive part of the read of row j.
+fn is_part(rows: &[[u8; 64]; 16], lens: &[usize; 16], i: usize, j: usize) -> bool
+    requires read_i { ⌜ RowHolds (now rows) (now lens) i ⌝ }
+    requires read_j { ⌜ RowHolds (now rows) (now lens) j ⌝ }
+    ensures { λ r. ⌜ r ≡ holds (rowAt (now (rows .entry)) (now (lens .entry)) j) (rowAt (now (rows .entry)) (now (lens .entry)) i) ⌝ }
+{
+    let n = lens[i];
+    let m = lens[j];
+    if m < n {
+        return false;
+    }
+    if rows[j][m - 1] < rows[i][n - 1] {
+        return false;
+    }
+    let p = place(rows, lens, j, rows[i][0]);
+    if m - n < p {
+        return false;
+    }
+    same_run(rows, lens, i, 0, j, p)
+}
