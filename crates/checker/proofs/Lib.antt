@@ -1,2 +1,3 @@
 -- Laws that the proofs of functions cite.
 pub mod TableLaws
+pub mod OverlapLaws

@@ -158,7 +158,7 @@ holds-last a b l c t =
     omega (arith, climbs-last b c (length u + k) (omega (arith, long)), same)
 
 module _ (rows : List (List ℕ)) (lens : List ℕ) (i j : ℕ) (gi : RowHolds rows lens i) (gj : RowHolds rows lens j) where
-  last-get : getD (rowAt rows lens i) (length (rowAt rows lens i) - 1) 0 ≡ getD (getD rows i []) (getD lens i 0 - 1) 0
+  pub last-get : getD (rowAt rows lens i) (length (rowAt rows lens i) - 1) 0 ≡ getD (getD rows i []) (getD lens i 0 - 1) 0
   last-get = rw (gi .long) (row-get rows lens i (getD lens i 0 - 1) (omega (arith, gi .long, gi .read .some)))
 
   pub part-short : getD lens j 0 < getD lens i 0 → false ≡ holds (rowAt rows lens j) (rowAt rows lens i)

@@ -71,3 +71,33 @@ fn is_part(rows: &[[u8; 64]; 16], lens: &[usize; 16], i: usize, j: usize) -> boo
     }
     same_run(rows, lens, i, 0, j, p)
 }
+
+// The length of the longest proper end of the read of row i that properly begins the read of row j, or 0.
+fn overlap(rows: &[[u8; 64]; 16], lens: &[usize; 16], i: usize, j: usize) -> usize
+    requires read_i { ⌜ RowHolds (now rows) (now lens) i ⌝ }
+    requires read_j { ⌜ RowHolds (now rows) (now lens) j ⌝ }
+    ensures { λ r. ⌜ r ≡ overlapOf (rowAt (now (rows .entry)) (now (lens .entry)) i) (rowAt (now (rows .entry)) (now (lens .entry)) j) ⌝ }
+{
+    let n = lens[i];
+    let m = lens[j];
+    let first = rows[j][0];
+    let last = rows[i][n - 1];
+    if first <= rows[i][0] {
+        return 0;
+    }
+    if last < first {
+        return 0;
+    }
+    if rows[j][m - 1] <= last {
+        return 0;
+    }
+    let p = place(rows, lens, i, first);
+    if m <= n - p {
+        return 0;
+    }
+    if same_run(rows, lens, i, p, j, 0) {
+        n - p
+    } else {
+        0
+    }
+}
