@@ -3,3 +3,6 @@ pub mod Scan
 pub mod HeaderLaws
 pub mod RecordLaws
 pub mod ArcLaws
+-- Laws that the proofs of functions cite.
+pub mod TableLaws
+pub mod OverlapLaws

@@ -1,0 +1,103 @@
+// Preparing the reads: a table of reads, a row each, lengths beside it. What a part of another is dropped; then the longest overlap is joined, while there is one.
+ghost use mathlib.Core.Path.{_≡_};
+ghost use mathlib.Core.List.{List, [], _∷_, _++_};
+ghost use mathlib.Core.Bool.{Bool, true, false, _||_};
+ghost use Prim.Native.Nat.{ℕ, suc, _+_, _-_, _<_, _≤_};
+ghost use lib.ListN.{length, getD, take, drop};
+ghost use Rattle.mathematics.specs.Lists.{begins, holds, someHolds};
+ghost use Rattle.mathematics.specs.Prepare.{someLonger, dropParts, overlap as overlapOf};
+ghost use Rattle.checker.specs.ReadTable.{rowAt, rowsOf, runs, RowHolds, TableHolds, Place};
+
+// Where v stands in the read of row j, or would stand.
+fn place(rows: &[[u8; 64]; 16], lens: &[usize; 16], j: usize, v: u8) -> usize
+    requires { ⌜ RowHolds (now rows) (now lens) j ⌝ }
+    ensures { λ r. ⌜ Place (rowAt (now (rows .entry)) (now (lens .entry)) j) v r ⌝ }
+{
+    let n = lens[j];
+    let mut p = 0;
+    while p < n {
+        if v <= rows[j][p] {
+            return p;
+        }
+        p += 1;
+    }
+    p
+}
+
+// Whether the end of the read of row i from p on begins the read of row j from q on.
+fn same_run(
+    rows: &[[u8; 64]; 16],
+    lens: &[usize; 16],
+    i: usize,
+    p: usize,
+    j: usize,
+    q: usize,
+) -> bool
+    requires read_i { ⌜ RowHolds (now rows) (now lens) i ⌝ }
+    requires read_j { ⌜ RowHolds (now rows) (now lens) j ⌝ }
+    requires room { ⌜ (p ≤ getD (now lens) i 0) × (getD (now lens) i 0 + q ≤ getD (now lens) j 0 + p) ⌝ }
+    ensures { λ r. ⌜ r ≡ runs (now (rows .entry)) (now (lens .entry)) i p j q ⌝ }
+{
+    let n = lens[i];
+    let mut k = p;
+    let mut at = q;
+    while k < n {
+        if rows[i][k] != rows[j][at] {
+            return false;
+        }
+        k += 1;
+        at += 1;
+    }
+    true
+}
+
+// Whether the read of row i is a consecutive part of the read of row j.
+fn is_part(rows: &[[u8; 64]; 16], lens: &[usize; 16], i: usize, j: usize) -> bool
+    requires read_i { ⌜ RowHolds (now rows) (now lens) i ⌝ }
+    requires read_j { ⌜ RowHolds (now rows) (now lens) j ⌝ }
+    ensures { λ r. ⌜ r ≡ holds (rowAt (now (rows .entry)) (now (lens .entry)) j) (rowAt (now (rows .entry)) (now (lens .entry)) i) ⌝ }
+{
+    let n = lens[i];
+    let m = lens[j];
+    if m < n {
+        return false;
+    }
+    if rows[j][m - 1] < rows[i][n - 1] {
+        return false;
+    }
+    let p = place(rows, lens, j, rows[i][0]);
+    if m - n < p {
+        return false;
+    }
+    same_run(rows, lens, i, 0, j, p)
+}
+
+// The length of the longest proper end of the read of row i that properly begins the read of row j, or 0.
+fn overlap(rows: &[[u8; 64]; 16], lens: &[usize; 16], i: usize, j: usize) -> usize
+    requires read_i { ⌜ RowHolds (now rows) (now lens) i ⌝ }
+    requires read_j { ⌜ RowHolds (now rows) (now lens) j ⌝ }
+    ensures { λ r. ⌜ r ≡ overlapOf (rowAt (now (rows .entry)) (now (lens .entry)) i) (rowAt (now (rows .entry)) (now (lens .entry)) j) ⌝ }
+{
+    let n = lens[i];
+    let m = lens[j];
+    let first = rows[j][0];
+    let last = rows[i][n - 1];
+    if first <= rows[i][0] {
+        return 0;
+    }
+    if last < first {
+        return 0;
+    }
+    if rows[j][m - 1] <= last {
+        return 0;
+    }
+    let p = place(rows, lens, i, first);
+    if m <= n - p {
+        return 0;
+    }
+    if same_run(rows, lens, i, p, j, 0) {
+        n - p
+    } else {
+        0
+    }
+}
