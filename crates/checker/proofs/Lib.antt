@@ -1,3 +1,4 @@
 -- The laws that the proofs of the code cite, one for each way through a function, and the theorems on forms that read.
 pub mod Scan
 pub mod RecordLaws
+pub mod AnswerLaws
