@@ -1,4 +1,5 @@
 -- The laws that the proofs of the code cite, one for each way through a function, and the theorems on forms that read.
 pub mod Scan
+pub mod HeaderLaws
 pub mod RecordLaws
 pub mod AnswerLaws

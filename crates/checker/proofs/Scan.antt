@@ -23,16 +23,16 @@ module _ (fault place : ℕ → ℕ) where
     scan-begins = rw sub-zero
 
     -- a turn: the record is right
-    pub scan-turns : (i : ℕ) → firstFault fault place n 0 ≡ firstFault fault place (n - i) i → i < n → fault i ≡ 0 → firstFault fault place n 0 ≡ firstFault fault place (n - (i + 1)) (i + 1)
-    scan-turns i inv h e =
+    pub scan-turns : (i r : ℕ) → firstFault fault place n 0 ≡ firstFault fault place (n - i) i → i < n → r ≡ fault i → r ≡ 0 → firstFault fault place n 0 ≡ firstFault fault place (n - (i + 1)) (i + 1)
+    scan-turns i r inv h e right =
         let split : n - i ≡ suc (n - (i + 1)) = omega arith in
-        inv ∙ (rw (split, rest-right (n - (i + 1)) i e, add-one))
+        inv ∙ (rw (split, rest-right (n - (i + 1)) i (sym e ∙ right), add-one))
 
     -- the record is not: it decides
-    pub scan-stops : (i r : ℕ) → firstFault fault place n 0 ≡ firstFault fault place (n - i) i → i < n → r ≡ fault i → (r ≡ 0 → ⊥) → refusal r (place i) ≡ firstFault fault place n 0
-    scan-stops i r inv h e wrong =
+    pub scan-stops : (i r at : ℕ) → firstFault fault place n 0 ≡ firstFault fault place (n - i) i → i < n → r ≡ fault i → (r ≡ 0 → ⊥) → at ≡ place i → refusal r at ≡ firstFault fault place n 0
+    scan-stops i r at inv h e wrong p =
         let split : n - i ≡ suc (n - (i + 1)) = omega arith in
-        rw e (sym (inv ∙ rw (split, rest-wrong (n - (i + 1)) i (λ z. wrong (e ∙ z)))))
+        rw (e, p) (sym (inv ∙ rw (split, rest-wrong (n - (i + 1)) i (λ z. wrong (e ∙ z)))))
 
     -- all are right
     pub scan-ends : (i : ℕ) → firstFault fault place n 0 ≡ firstFault fault place (n - i) i → n ≤ i → nothingRefused ≡ firstFault fault place n 0

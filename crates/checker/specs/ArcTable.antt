@@ -1,19 +1,18 @@
 -- Which arc goes from one vertex to another: its number in the form, and the table by which the code finds it without a look at all arcs.
-use Prim.Native.Nat.{ℕ, zero, suc, _+_, _<_, _≤_}
+use Prim.Native.Nat.{ℕ, zero, suc, _+_, _≤_}
 use mathlib.Core.Path.{_≡_}
 use mathlib.Core.List.{List, [], _∷_}
 use mathlib.Core.Bool.{cond}
 use lib.Dec.{ltb}
 use lib.IntN.{ℤ}
-use lib.ListN.{length, getD}
+use lib.ListN.{getD}
 use Rattle.mathematics.specs.Graph.{Arc, joins}
 use Rattle.mathematics.specs.Cover.{oneIf}
 use Rattle.checker.specs.declared.Found.{Found}
 use Rattle.checker.specs.declared.Found.the-variants.{At, Missing}
 use Rattle.checker.specs.Limits.{maxVertices}
-use Rattle.checker.specs.GraphForm.{vertexCount, arcCount, firstReadAt}
 use Rattle.checker.specs.GraphOf.{arcsOf}
-use Rattle.checker.specs.GraphFaults.{arcFault}
+use Rattle.checker.specs.GraphReads.{ArcsRight}
 
 -- the number of the first arc of the list that goes from u to v, where the list's own first arc has number k
 unfoldable pub numberFrom : List (Arc ℤ) → ℕ → ℕ → ℕ → Found
@@ -29,13 +28,7 @@ unfoldable pub tailsBelow : List (Arc ℤ) → ℕ → ℕ
 tailsBelow [] u = 0
 tailsBelow (a ∷ arcs) u = oneIf (ltb (a .tail) u) + tailsBelow arcs u
 
--- a form whose counts are in range and whose arcs are right
-pub record ArcsRight (s : List ℕ) : Type 0 where
-  pub few : vertexCount s ≤ maxVertices
-  pub whole : firstReadAt s ≤ length s
-  pub right : (a : ℕ) → a < arcCount s → arcFault s a ≡ 0
-
--- the table of first arcs of such a form: at u the number of arcs whose tail is below u, which is the number of u's own first arc
+-- the table of first arcs of a form whose arcs are right: at u the number of arcs whose tail is below u, which is the number of u's own first arc
 pub record ArcTable (s first : List ℕ) : Type 0 where
   pub arcs : ArcsRight s
   pub at : (u : ℕ) → u ≤ maxVertices → getD first u 0 ≡ tailsBelow (arcsOf s) u

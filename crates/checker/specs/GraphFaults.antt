@@ -49,18 +49,21 @@ vertexFault s v =
     cond (ltb (length s) (vertexAt s v + vertexLength)) 5
     (cond (ltb 3 (flags s v) || ltb maxDemand (vertexDemand s v)) 4 0)
 
--- "strictly ascending by tail, then head"
+-- "strictly ascending by tail, then head": the arc at an offset comes after the arc at another
+abbrev pub follows : List ℕ → ℕ → ℕ → Bool
+follows s before at =
+    ltb (arcTail s before) (arcTail s at) || (eqb (arcTail s before) (arcTail s at) && ltb (arcHead s before) (arcHead s at))
+
+-- the first arc, or one that comes after the arc whose record stands just before
 abbrev pub ascends : List ℕ → ℕ → Bool
-ascends s zero = true
-ascends s (suc a) =
-    ltb (arcTail s a) (arcTail s (suc a)) || (eqb (arcTail s a) (arcTail s (suc a)) && ltb (arcHead s a) (arcHead s (suc a)))
+ascends s at = eqb at (arcAt s 0) || follows s (at - arcLength) at
 
 -- 6: "arc not tail < head < n, or not ascending"
 unfoldable pub arcFault : List ℕ → ℕ → ℕ
-arcFault s a =
-    cond (ltb (length s) (arcAt s a + arcLength)) 5
-    (cond (ltb maxCost (arcCost s a) || ltb maxDemand (arcDemand s a)) 4
-    (cond (ltb (arcTail s a) (arcHead s a) && (ltb (arcHead s a) (vertexCount s) && ascends s a)) 0 6))
+arcFault s at =
+    cond (ltb (length s) (at + arcLength)) 5
+    (cond (ltb maxCost (arcCost s at) || ltb maxDemand (arcDemand s at)) 4
+    (cond (ltb (arcTail s at) (arcHead s at) && (ltb (arcHead s at) (vertexCount s) && ascends s at)) 0 6))
 
 -- each number is below n
 abbrev pub allBelow : ℕ → List ℕ → Bool
@@ -84,7 +87,7 @@ abbrev pub verticesVerdict : List ℕ → Verdict
 verticesVerdict s = firstFault (vertexFault s) (vertexAt s) (vertexCount s) 0
 
 abbrev pub arcsVerdict : List ℕ → Verdict
-arcsVerdict s = firstFault (arcFault s) (arcAt s) (arcCount s) 0
+arcsVerdict s = firstFault (λ a. arcFault s (arcAt s a)) (arcAt s) (arcCount s) 0
 
 -- count reads, the first at an offset. 5: "or bytes remain", place "the end of the last"
 unfoldable pub readsVerdict : List ℕ → ℕ → ℕ → Verdict

@@ -4,10 +4,21 @@ pub mod answer;
 pub mod bytes;
 pub mod reader;
 
+ghost use mathlib.Core.Path.{_≡_};
+ghost use Rattle.checker.specs.GraphFaults.{refusal};
+
 // What a call answers where an input may be turned down: the refusal's number and its place; both are 0 where nothing is refused.
 pub struct Verdict {
     pub number: usize,
     pub place: usize,
+}
+
+impl Verdict {
+    pub fn new(number: usize, place: usize) -> Verdict
+        ensures { λ r. ⌜ r ≡ refusal number place ⌝ }
+    {
+        Verdict { number, place }
+    }
 }
 
 // The number of the arc from one vertex to another, where there is one.

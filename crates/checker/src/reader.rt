@@ -7,8 +7,40 @@ use crate::bytes::wide;
 ghost use mathlib.Core.Path.{_≡_};
 ghost use Prim.Native.Nat.{_+_, _<_, _≤_};
 ghost use lib.ListN.{length};
-ghost use Rattle.checker.specs.GraphFaults.{vertexFault, firstFault};
-ghost use Rattle.checker.specs.GraphForm.{vertexAt};
+ghost use Rattle.checker.specs.GraphFaults.{headerVerdict, vertexFault, arcFault, firstFault};
+ghost use Rattle.checker.specs.GraphForm.{vertexAt, vertexCount, arcAt};
+
+// What is wrong with the header: 1, 2, 3 or 4.
+fn header_verdict(s: &[u8]) -> Verdict
+    ensures { λ r. ⌜ r ≡ headerVerdict (now (s .entry)) ⌝ }
+{
+    if s.len() < Graph::HEADER {
+        return Verdict::new(1, 0);
+    }
+    if be32(s, 0) != s.len() {
+        return Verdict::new(1, 0);
+    }
+    if wide(s[4]) != 1 {
+        return Verdict::new(2, 4);
+    }
+    let n = wide(s[5]);
+    if n == 0 {
+        return Verdict::new(3, 5);
+    }
+    if Graph::MAX_VERTICES < n {
+        return Verdict::new(3, 5);
+    }
+    if Graph::MAX_ARCS < be16(s, 6) {
+        return Verdict::new(3, 6);
+    }
+    if Graph::MAX_READS < wide(s[8]) {
+        return Verdict::new(3, 8);
+    }
+    if Graph::MAX_OPENING < be32(s, 9) {
+        return Verdict::new(4, 9);
+    }
+    Verdict::new(0, 0)
+}
 
 // What is wrong with the record of vertex v: 5, 4 or nothing.
 fn vertex_fault(s: &[u8], v: usize) -> usize
@@ -37,15 +69,56 @@ fn vertices_verdict(s: &[u8], count: usize) -> Verdict
     while v < count {
         let fault = vertex_fault(s, v);
         if fault != 0 {
-            return Verdict {
-                number: fault,
-                place: Graph::HEADER + Graph::VERTEX * v,
-            };
+            return Verdict::new(fault, Graph::HEADER + Graph::VERTEX * v);
         }
         v += 1;
     }
-    Verdict {
-        number: 0,
-        place: 0,
+    Verdict::new(0, 0)
+}
+
+// What is wrong with the arc record at an offset, in a form with n vertices: 5, 4, 6 or nothing. Tail and head as one number order the arcs.
+fn arc_fault(s: &[u8], n: usize, at: usize) -> usize
+    requires { ⌜ (n ≡ vertexCount (now s)) × (n < 256) × (arcAt (now s) 0 ≤ at) × (at < 1000000) ⌝ }
+    ensures { λ r. ⌜ r ≡ arcFault (now (s .entry)) at ⌝ }
+{
+    if s.len() < at + Graph::ARC {
+        return 5;
     }
+    if Graph::MAX_COST < be32(s, at + 2) {
+        return 4;
+    }
+    if Graph::MAX_DEMAND < be32(s, at + 6) {
+        return 4;
+    }
+    let head = wide(s[at + 1]);
+    if head <= wide(s[at]) {
+        return 6;
+    }
+    if n <= head {
+        return 6;
+    }
+    if at == Graph::HEADER + Graph::VERTEX * n {
+        return 0;
+    }
+    if be16(s, at) <= be16(s, at - Graph::ARC) {
+        return 6;
+    }
+    0
+}
+
+// The first faulty one of count arc records.
+fn arcs_verdict(s: &[u8], n: usize, count: usize) -> Verdict
+    requires { ⌜ (n ≡ vertexCount (now s)) × (n < 256) × (count < 65536) ⌝ }
+    ensures { λ r. ⌜ r ≡ firstFault (λ a. arcFault (now (s .entry)) (arcAt (now (s .entry)) a)) (arcAt (now (s .entry))) count 0 ⌝ }
+{
+    let base = Graph::HEADER + Graph::VERTEX * n;
+    let mut a = 0;
+    while a < count {
+        let fault = arc_fault(s, n, base + Graph::ARC * a);
+        if fault != 0 {
+            return Verdict::new(fault, base + Graph::ARC * a);
+        }
+        a += 1;
+    }
+    Verdict::new(0, 0)
 }
