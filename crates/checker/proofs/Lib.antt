@@ -6,3 +6,4 @@ pub mod ArcLaws
 -- Laws that the proofs of functions cite.
 pub mod TableLaws
 pub mod OverlapLaws
+pub mod AnswerLaws
