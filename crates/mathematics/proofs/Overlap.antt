@@ -54,7 +54,7 @@ end-begins m o n =
     rw (before, drop-length) (begins-append o n)
 
 -- a list that properly ends one and properly begins the other is no longer than their overlap
-overlap-most : (m o n : List ℕ) → 1 ≤ length m → 1 ≤ length n → length o ≤ overlap (m ++ o) (o ++ n)
+pub overlap-most : (m o n : List ℕ) → 1 ≤ length m → 1 ≤ length n → length o ≤ overlap (m ++ o) (o ++ n)
 unfolding overlap
 overlap-most m [] n p q = zero-le
 overlap-most m (v ∷ o) n p q =
