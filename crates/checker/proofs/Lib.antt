@@ -7,3 +7,5 @@ pub mod ArcLaws
 pub mod TableLaws
 pub mod OverlapLaws
 pub mod AnswerLaws
+pub mod CertifyLawsSlack
+pub mod CertifyLaws

@@ -2,6 +2,7 @@
 // The definitions that the contracts cite are in specs/, in document 01's words and order.
 pub mod answer;
 pub mod bytes;
+pub mod certify;
 pub mod reader;
 
 ghost use mathlib.Core.Path.{_≡_};
@@ -87,4 +88,5 @@ impl Graph {
         }
     }
 }
+
 mod reads;
