@@ -1,3 +1,5 @@
 -- The laws, smallest first; the theorems that docs/PROMISES.md names come last.
 pub mod Basics
+pub mod Loads
+pub mod Sweep
 pub mod Examples
