@@ -3,3 +3,5 @@ pub mod Basics
 pub mod Loads
 pub mod Sweep
 pub mod Examples
+pub mod Merge
+pub mod Reach
