@@ -2,6 +2,10 @@
 pub mod Basics
 pub mod Loads
 pub mod Sweep
+pub mod Algebra
+pub mod PriceKinds
+pub mod Items
+pub mod Telescope
 pub mod Examples
 pub mod Merge
 pub mod Reach
