@@ -9,3 +9,8 @@ pub mod Telescope
 pub mod Examples
 pub mod Merge
 pub mod Reach
+pub mod WithReads
+pub mod Parts
+pub mod Overlap
+pub mod Taken
+pub mod Dropped
