@@ -14,3 +14,5 @@ pub mod Parts
 pub mod Overlap
 pub mod Taken
 pub mod Dropped
+pub mod Network
+pub mod Tree
