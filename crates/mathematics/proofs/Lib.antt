@@ -16,3 +16,4 @@ pub mod Taken
 pub mod Dropped
 pub mod Network
 pub mod Tree
+pub mod Links
