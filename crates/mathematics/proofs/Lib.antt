@@ -17,3 +17,4 @@ pub mod Dropped
 pub mod Network
 pub mod Tree
 pub mod Links
+pub mod Decompose

@@ -111,16 +111,16 @@ count-append : (i : Item) (xs ys : List Item) → countOf i (xs ++ ys) ≡ count
 count-append i [] ys = omega arith
 count-append i (x ∷ xs) ys = omega (arith, count-append i xs ys)
 
-module _ {E : Type 0} (G : Graph E) (Opens Closes : ℕ → Type 0) where
-  -- the link is one of the graph's
-  abbrev pub OfGraph : Link → Type 0
-  OfGraph (opening v) = T (isStart G v)
-  OfGraph (closing v) = T (isEnd G v)
-  OfGraph (inside v) = v < length (G .vertices)
-  OfGraph (across u v) = T (hasArc (G .arcs) u v)
-  OfGraph (reading []) = ⊥
-  OfGraph (reading (v ∷ r)) = (v < length (G .vertices)) × T (linked (G .arcs) (v ∷ r))
+-- the link is one of the graph's
+abbrev pub OfGraph : {E : Type 0} → Graph E → Link → Type 0
+OfGraph G (opening v) = T (isStart G v)
+OfGraph G (closing v) = T (isEnd G v)
+OfGraph G (inside v) = v < length (G .vertices)
+OfGraph G (across u v) = T (hasArc (G .arcs) u v)
+OfGraph G (reading []) = ⊥
+OfGraph G (reading (v ∷ r)) = (v < length (G .vertices)) × T (linked (G .arcs) (v ∷ r))
 
+module _ (Opens Closes : ℕ → Type 0) where
   -- what is known of the opening and closing links that are used
   abbrev pub Used : Link → Type 0
   Used (opening v) = Opens v
@@ -129,8 +129,14 @@ module _ {E : Type 0} (G : Graph E) (Opens Closes : ℕ → Type 0) where
   Used (across u v) = Unit {0}
   Used (reading r) = Unit {0}
 
+  -- the path begins and ends as the used links do
+  abbrev pub AtEnds : List ℕ → Type 0
+  AtEnds [] = ⊥
+  AtEnds (v ∷ p) = Opens v × Closes (lastOf v p)
+
+module _ {E : Type 0} (G : Graph E) (Opens Closes : ℕ → Type 0) where
   abbrev pub Leads : ℕ → List Link → Type 0
-  Leads x ls = Chain linkFrom (linkTo (inNode (length (G .vertices)))) (λ l. OfGraph l × Used l) x (inNode (length (G .vertices))) ls
+  Leads x ls = Chain linkFrom (linkTo (inNode (length (G .vertices)))) (λ l. OfGraph G l × Used Opens Closes l) x (inNode (length (G .vertices))) ls
 
   -- a walk from the out side of v to the finish
   record FromOut (v : ℕ) (ls : List Link) : Type 0 where
@@ -223,15 +229,10 @@ module _ {E : Type 0} (G : Graph E) (Opens Closes : ℕ → Type 0) where
           (through-across u w ls t (from-in ls w (arc-rises (length (G .vertices)) (G .arcs) u w rises t .1) c))
       from-out (reading r ∷ ls) v (e, g, c) = absurd (omega arith)
 
-    -- a path that begins and ends as the used links do
-    abbrev pub AtEnds : List ℕ → Type 0
-    AtEnds [] = ⊥
-    AtEnds (v ∷ p) = Opens v × Closes (lastOf v p)
-
     -- What a walk from the root to the finish is.
     pub record IsWhole (ls : List Link) : Type 0 where
       pub is-path : T (isPath G (pathOf ls))
-      pub at-ends : AtEnds (pathOf ls)
+      pub at-ends : AtEnds Opens Closes (pathOf ls)
       pub items : (i : Item) → sumOver (passes i) ls ≡ through i (pathOf ls)
       pub opened : sumOver opens ls ≡ 1
 
@@ -261,7 +262,7 @@ module _ {E : Type 0} (G : Graph E) (Opens Closes : ℕ → Type 0) where
         omega arith
 
     -- a link of the graph rises, to the finish at most
-    pub link-rises : (l : Link) → OfGraph l →
+    pub link-rises : (l : Link) → OfGraph G l →
         (linkFrom l < linkTo (inNode (length (G .vertices))) l) × (linkTo (inNode (length (G .vertices))) l ≤ inNode (length (G .vertices)))
     link-rises (opening v) t = let b = start-below G v t in omega arith
     link-rises (closing v) t = let b = end-below G v t in omega arith

@@ -120,6 +120,11 @@ if-equal {m} {n} e = ap oneIf (is-true (eqb m n) (subst (λ (k : ℕ). T (eqb m 
 if-unequal : (m n : ℕ) → m ≢ n → oneIf (eqb m n) ≡ 0
 if-unequal m n h = ap oneIf (is-false (eqb m n) (λ t. h (eqb→eq m n t)))
 
+-- as much enters as leaves each node between 0 and M
+abbrev pub Balanced : {L : Type 0} (start finish : L → ℕ) → ℕ → List (Load L) → Type 0
+Balanced start finish M loads =
+    (x : ℕ) → 0 < x → x < M → worth (λ l. oneIf (eqb (finish l) x)) loads ≡ worth (λ l. oneIf (eqb (start l) x)) loads
+
 module _ {L : Type 0} (start finish : L → ℕ) (Good : L → Type 0) where
   -- the links lead from x to y
   abbrev pub Chain : ℕ → ℕ → List L → Type 0
@@ -286,10 +291,7 @@ module _ {L : Type 0} (start finish : L → ℕ) (Good : L → Type 0) where
   abbrev pub Rising : ℕ → Load L → Type 0
   Rising M l = (start (l .what) < finish (l .what)) × (finish (l .what) ≤ M) × (1 ≤ l .amount → Good (l .what))
 
-  abbrev pub Balanced : ℕ → List (Load L) → Type 0
-  Balanced M loads = (x : ℕ) → 0 < x → x < M → worth (λ l. oneIf (eqb (finish l) x)) loads ≡ worth (λ l. oneIf (eqb (start l) x)) loads
-
-  begun : (M : ℕ) (loads : List (Load L)) → All (λ l. Rising M l × T (isPresent l)) loads → Balanced M loads → State M 0 (relabel single loads)
+  begun : (M : ℕ) (loads : List (Load L)) → All (λ l. Rising M l × T (isPresent l)) loads → Balanced start finish M loads → State M 0 (relabel single loads)
   begun M loads sound balance =
       record {
         swept = all-relabel single (λ l. Rising M l × T (isPresent l)) (λ p. Swept M 0 (p .what)) loads sound one-of;
@@ -335,7 +337,7 @@ module _ {L : Type 0} (start finish : L → ℕ) (Good : L → Type 0) where
       }
 
   -- Loads that balance at every node between 0 and M are the sum of no more walks from 0 to M than there are loads.
-  pub split : (M : ℕ) → 1 ≤ M → (loads : List (Load L)) → All (Rising M) loads → Balanced M loads → Split M loads
+  pub split : (M : ℕ) → 1 ≤ M → (loads : List (Load L)) → All (Rising M) loads → Balanced start finish M loads → Split M loads
   split M pos loads sound balance =
       let some : List (Load L) = passing isPresent loads in
       let state : State M 0 (relabel single some) =
