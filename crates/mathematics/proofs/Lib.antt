@@ -18,3 +18,4 @@ pub mod Network
 pub mod Tree
 pub mod Links
 pub mod Decompose
+pub mod Existence

@@ -2,18 +2,18 @@
 -- a vertex, an arc or a read lies on a path exactly when its first vertex is reached from a start and its last reaches an end.
 use Prim.Native.Nat.{ℕ, zero, suc, _+_, _-_, _≤_, _<_}
 use native.Mathlib.Omega.{arith}
-use mathlib.Core.Path.{_≡_, refl, sym, ap, subst, _∙_}
+use mathlib.Core.Path.{_≡_, refl, sym, subst, _∙_}
 use mathlib.Core.List.{List, [], _∷_, _++_}
 use mathlib.Core.Bool.{Bool, true, false, _&&_, _||_}
-use mathlib.Core.Logic.{_⊎_, inl, inr, _↔_}
+use mathlib.Core.Logic.{inl, inr, _↔_}
 use lib.Dec.{T, leb, eqb, leb→le, nleb→lt, not-T, eqb→eq, eqb-refl}
 use lib.ListN.{length, getD}
 use Rattle.mathematics.specs.Lists.{All, begins, holds, lastOf}
 use Rattle.mathematics.specs.Range.{OneOf}
 use Rattle.mathematics.specs.Graph.{Vertex, Arc, Graph, WellFormed, Rises, noVertex, isStart, isEnd, joins, hasArc, linked, isPath}
-use Rattle.mathematics.specs.Cover.{Item, vert, arc, sameItem, oneIf, trail, countOf, through}
+use Rattle.mathematics.specs.Cover.{Item, vert, arc, oneIf, through}
 use Rattle.mathematics.specs.Exists.{ItemOnPath, ReadOnPath}
-use Rattle.mathematics.specs.Reach.{itemList, someInto, someOut, fromStartIn, toEndIn, fromStart, toEnd, useful, readLies, itemLies}
+use Rattle.mathematics.specs.Reach.{itemList, someInto, someOut, fromStartIn, toEndIn, fromStart, toEnd, useful}
 use Rattle.mathematics.proofs.Basics.{and-l, and-r, and-in, or-cases, or-l, or-r, all-among, test}
 
 -- ---- linked lists, end to end

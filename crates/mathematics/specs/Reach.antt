@@ -3,11 +3,16 @@
 use Prim.Native.Nat.{ℕ, zero, suc, _-_}
 use mathlib.Core.List.{List, [], _∷_}
 use mathlib.Core.Bool.{Bool, true, false, _&&_, _||_}
-use lib.Dec.{T, eqb}
+use lib.Dec.{eqb}
 use lib.ListN.{length}
 use Rattle.mathematics.specs.Lists.{lastOf}
 use Rattle.mathematics.specs.Graph.{Arc, Graph, isStart, isEnd}
 use Rattle.mathematics.specs.Cover.{Item, vert, arc, Ask, asks}
+
+-- f holds of each
+abbrev pub every : {A : Type 0} → (A → Bool) → List A → Bool
+every f [] = true
+every f (x ∷ xs) = f x && every f xs
 
 -- the vertices of an item, as a list
 abbrev pub itemList : Item → List ℕ
@@ -64,14 +69,6 @@ module _ {E : Type 0} where
   abbrev pub askLies : Graph E → Ask → Bool
   askLies G a = eqb (a .demand) 0 || itemLies G (a .item)
 
-  abbrev pub allAsksLie : Graph E → List Ask → Bool
-  allAsksLie G [] = true
-  allAsksLie G (a ∷ more) = askLies G a && allAsksLie G more
-
-  abbrev pub allReadsLie : Graph E → List (List ℕ) → Bool
-  allReadsLie G [] = true
-  allReadsLie G (r ∷ rs) = readLies G r && allReadsLie G rs
-
   -- whether there is a cover
   unfoldable pub coverable-test : Graph E → Bool
-  coverable-test G = allAsksLie G (asks G) && allReadsLie G (G .reads)
+  coverable-test G = every (askLies G) (asks G) && every (readLies G) (G .reads)
