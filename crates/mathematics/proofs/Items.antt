@@ -1,19 +1,20 @@
 -- The items of a graph. Each vertex below n and each arc stands exactly once among the asks, so a sum over what a list passes through is a sum over
 -- the asks; and a list of vertices linked by arcs passes only through items of the graph. Totals and the bound rest on this.
-use Prim.Native.Nat.{ℕ, zero, suc, _+_, _≤_, _<_}
+use Prim.Native.Nat.{ℕ, suc, _+_, _≤_, _<_}
 use native.Mathlib.Omega.{arith}
 use mathlib.Core.Path.{_≡_, refl, sym, ap, ap₂, subst, _∙_}
 use mathlib.Core.List.{List, [], _∷_, map}
-use mathlib.Core.Bool.{Bool, true, false, cond, _&&_}
+use mathlib.Core.Bool.{Bool, true, false, cond}
 use mathlib.Core.Logic.{_⊎_, inl, inr, _≢_}
 use lib.Dec.{T, eqb, eqb→eq, eqb-refl}
-use lib.ListN.{length, getD}
+use lib.ListN.{length}
 use Rattle.mathematics.specs.Price.{Prices, Ordered, times}
 use Rattle.mathematics.specs.Lists.{All, Distinct}
-use Rattle.mathematics.specs.Graph.{Vertex, Arc, Graph, noVertex, isStart, isPath, joins, hasArc, linked, Rises, WellFormed}
+use Rattle.mathematics.specs.Graph.{Vertex, Arc, Graph, isPath, joins, hasArc, linked, Rises, WellFormed}
 use Rattle.mathematics.specs.Cover.{Item, vert, arc, sameItem, trail, oneIf, countOf, Ask, vertexAsks, arcAsk, asks, costOf}
 use Rattle.mathematics.specs.Range.{OneOf}
-use Rattle.mathematics.proofs.Basics.{and-l, and-r, and-in, or-cases, or-l, or-r, test, is-true, is-false, all-among, all-append, all-map, all-from, all-weaken}
+use Rattle.mathematics.proofs.Basics.{and-l, and-r, and-in, or-cases, test, is-true, is-false, all-among, all-append, all-map, all-from, all-weaken}
+use Rattle.mathematics.proofs.Reach.{linked-first, linked-rest, arc-joins, arc-rises, start-below, path-start, path-linked}
 use Rattle.mathematics.proofs.Algebra.{sumBy, nil-add, times-one, times-sum, sum-append, sum-add, sum-nil, sum-equal}
 
 -- i is a vertex or an arc of the graph
@@ -29,12 +30,6 @@ abbrev pub FirstBelow : ℕ → List ℕ → Type 0
 FirstBelow n [] = Unit {0}
 FirstBelow n (v ∷ p) = v < n
 
--- a vertex with a flag is one of the list
-pub flagged-below : (flag : Vertex → Bool) → flag noVertex ≡ false → (xs : List Vertex) (v : ℕ) → T (flag (getD xs v noVertex)) → v < length xs
-flagged-below flag e [] v t = absurd (subst T e t)
-flagged-below flag e (x ∷ xs) zero t = omega arith
-flagged-below flag e (x ∷ xs) (suc v) t = let h = flagged-below flag e xs v t in omega arith
-
 module _ {E : Type 0} where
   pub joins-ends : (a : Arc E) (u v : ℕ) → T (joins a u v) → (a .tail ≡ u) × (a .head ≡ v)
   joins-ends a u v t =
@@ -43,40 +38,19 @@ module _ {E : Type 0} where
   pub joins-own : (a : Arc E) → T (joins a (a .tail) (a .head))
   joins-own a = and-in (eqb (a .tail) (a .tail)) (eqb (a .head) (a .head)) (eqb-refl (a .tail)) (eqb-refl (a .head))
 
-  -- an arc of the list from u to v
-  pub arc-among : (arcs : List (Arc E)) (u v : ℕ) → T (hasArc arcs u v) → (a : Arc E) × OneOf arcs a × (a .tail ≡ u) × (a .head ≡ v)
-  arc-among [] u v t = absurd t
-  arc-among (a ∷ arcs) u v t = at (or-cases (joins a u v) (hasArc arcs u v) t) (arc-among arcs u v)
-    where
-      at : T (joins a u v) ⊎ T (hasArc arcs u v) → (T (hasArc arcs u v) → (b : Arc E) × OneOf arcs b × (b .tail ≡ u) × (b .head ≡ v)) → (b : Arc E) × OneOf (a ∷ arcs) b × (b .tail ≡ u) × (b .head ≡ v)
-      at (inl j) more = (a, inl refl, joins-ends a u v j .0, joins-ends a u v j .1)
-      at (inr h) more = let (b, m, s, t) = more h in (b, inr m, s, t)
-
-  -- where arcs rise, an arc from u to v has u < v < n
-  pub arc-rises : (n : ℕ) (arcs : List (Arc E)) (u v : ℕ) → All (Rises n) arcs → T (hasArc arcs u v) → (u < v) × (v < n)
-  arc-rises n arcs u v r t =
-      let (a, m, tails, heads) = arc-among arcs u v t in
-      let rise : Rises n a = all-among (Rises n) arcs a r m in
-      let low = rise .0 in
-      let high = rise .1 in
-      (omega arith, omega arith)
-
   -- what a linked list passes through is of the graph
   pub known-trail : (G : Graph E) → All (Rises (length (G .vertices))) (G .arcs) → (p : List ℕ) → FirstBelow (length (G .vertices)) p →
       T (linked (G .arcs) p) → All (Known G) (trail p)
   known-trail G r [] f t = tt
   known-trail G r (v ∷ []) f t = (f, tt)
   known-trail G r (u ∷ v ∷ p) f t =
-      let step = and-l (hasArc (G .arcs) u v) (linked (G .arcs) (v ∷ p)) t in
-      let more = and-r (hasArc (G .arcs) u v) (linked (G .arcs) (v ∷ p)) t in
-      (f, (step, known-trail G r (v ∷ p) (arc-rises (length (G .vertices)) (G .arcs) u v r step .1) more))
+      let step = linked-first (G .arcs) u v p t in
+      (f, (step, known-trail G r (v ∷ p) (arc-rises (length (G .vertices)) (G .arcs) u v r step .1) (linked-rest (G .arcs) u v p t)))
 
   -- what a path passes through
   pub known-path : (G : Graph E) → All (Rises (length (G .vertices))) (G .arcs) → (p : List ℕ) → T (isPath G p) → All (Known G) (trail p)
   known-path G r [] t = absurd t
-  known-path G r (v ∷ p) t =
-      let more = and-r (isStart G v) (linked (G .arcs) (v ∷ p) && _) t in
-      known-trail G r (v ∷ p) (flagged-below (λ (x : Vertex). x .start) refl (G .vertices) v (and-l (isStart G v) _ t)) (and-l (linked (G .arcs) (v ∷ p)) _ more)
+  known-path G r (v ∷ p) t = known-trail G r (v ∷ p) (start-below G v (path-start G v p t)) (path-linked G v p t)
 
   -- what a read of two vertices or more passes through
   pub known-read : (G : Graph E) → All (Rises (length (G .vertices))) (G .arcs) → (r : List ℕ) → 2 ≤ length r → T (linked (G .arcs) r) →
@@ -84,7 +58,7 @@ module _ {E : Type 0} where
   known-read G r [] f t = absurd (omega arith)
   known-read G r (v ∷ []) f t = absurd (omega arith)
   known-read G r (u ∷ v ∷ p) f t =
-      let rise = arc-rises (length (G .vertices)) (G .arcs) u v r (and-l (hasArc (G .arcs) u v) (linked (G .arcs) (v ∷ p)) t) in
+      let rise = arc-rises (length (G .vertices)) (G .arcs) u v r (linked-first (G .arcs) u v p t) in
       let low = rise .0 in
       let high = rise .1 in
       known-trail G r (u ∷ v ∷ p) (omega arith) t
@@ -117,17 +91,11 @@ vertex-asks-known : {E : Type 0} (G : Graph E) (k : ℕ) (xs : List Vertex) → 
 vertex-asks-known G k [] h = tt
 vertex-asks-known G k (x ∷ xs) h = (omega arith, vertex-asks-known G (suc k) xs (omega arith))
 
-arc-known : {E : Type 0} (arcs : List (Arc E)) (a : Arc E) → OneOf arcs a → T (hasArc arcs (a .tail) (a .head))
-arc-known [] a m = absurd m
-arc-known (b ∷ arcs) a (inl e) =
-    or-l (joins b (a .tail) (a .head)) (hasArc arcs (a .tail) (a .head)) (subst (λ x. T (joins x (a .tail) (a .head))) e (joins-own a))
-arc-known (b ∷ arcs) a (inr m) = or-r (joins b (a .tail) (a .head)) (hasArc arcs (a .tail) (a .head)) (arc-known arcs a m)
-
 -- what asks is of the graph
 pub asks-known : {E : Type 0} (G : Graph E) → All (λ a. Known G (a .item)) (asks G)
 asks-known {E} G =
     all-append (λ a. Known G (a .item)) (vertexAsks 0 (G .vertices)) (map arcAsk (G .arcs)) (vertex-asks-known G 0 (G .vertices) (omega arith))
-    (all-map (λ a. Known G (a .item)) arcAsk (G .arcs) (all-from (λ (a : Arc E). Known G (arcAsk a .item)) (G .arcs) (arc-known (G .arcs))))
+    (all-map (λ a. Known G (a .item)) arcAsk (G .arcs) (all-from (λ (a : Arc E). Known G (arcAsk a .item)) (G .arcs) (arc-joins (G .arcs))))
 
 -- what an ask contributes at the item j: f of its item if that is j, nothing otherwise
 abbrev hit : (P : Prices) → (Item → P .El) → Item → Ask → P .El

@@ -4,9 +4,6 @@ pub mod Loads
 pub mod Sweep
 pub mod Algebra
 pub mod PriceKinds
-pub mod Items
-pub mod Telescope
-pub mod Examples
 pub mod Merge
 pub mod Reach
 pub mod WithReads
@@ -19,3 +16,10 @@ pub mod Tree
 pub mod Links
 pub mod Decompose
 pub mod Existence
+pub mod Items
+pub mod Telescope
+pub mod Totals
+pub mod LowerBound
+pub mod Lowest
+pub mod Limits
+pub mod Examples

@@ -17,7 +17,8 @@ use Rattle.mathematics.specs.Range.{OneOf}
 use Rattle.mathematics.proofs.Basics.{and-l, and-r, all-among, all-weaken}
 use Rattle.mathematics.proofs.Algebra
 use Rattle.mathematics.proofs.Algebra.{sumBy}
-use Rattle.mathematics.proofs.Items.{Known, joins-own, arc-among, cost-own, known-read, flagged-below}
+use Rattle.mathematics.proofs.Reach.{joining-arc, start-below, end-below}
+use Rattle.mathematics.proofs.Items.{Known, joins-own, cost-own, known-read}
 
 module _ (P : Prices) where
   -- the slack of a vertex or of an arc
@@ -108,11 +109,11 @@ module _ (P : Prices) (L : Ordered P) where
 
     pub start-slack-holds : (v : ℕ) → T (isStart G v) → Le P (P .nil) (startSlack P G m v)
     start-slack-holds v t =
-        then-holds (isStart G v) _ (and-l (cond (isStart G v) (P .leb (P .nil) (startSlack P G m v)) true) _ (at-vertex v (flagged-below (λ (x : Vertex). x .start) refl (G .vertices) v t))) t
+        then-holds (isStart G v) _ (and-l (cond (isStart G v) (P .leb (P .nil) (startSlack P G m v)) true) _ (at-vertex v (start-below G v t))) t
 
     pub end-slack-holds : (v : ℕ) → T (isEnd G v) → Le P (P .nil) (endSlack P m v)
     end-slack-holds v t =
-        let h = at-vertex v (flagged-below (λ (x : Vertex). x .end) refl (G .vertices) v t) in
+        let h = at-vertex v (end-below G v t) in
         then-holds (isEnd G v) _
         (and-l (cond (isEnd G v) (P .leb (P .nil) (endSlack P m v)) true) _ (and-r (cond (isStart G v) (P .leb (P .nil) (startSlack P G m v)) true) _ h)) t
 
@@ -121,7 +122,7 @@ module _ (P : Prices) (L : Ordered P) where
     item-slack-holds g (vert v) k =
         and-r (cond (isEnd G v) (P .leb (P .nil) (endSlack P m v)) true) _ (and-r (cond (isStart G v) (P .leb (P .nil) (startSlack P G m v)) true) _ (at-vertex v k))
     item-slack-holds g (arc u v) k =
-        let (a, among, tails, heads) = arc-among (G .arcs) u v k in
+        let (a, among, tails, heads) = joining-arc (G .arcs) u v k in
         subst₂ (λ x y. Le P (P .nil) (itemSlack P G m (arc x y))) tails heads
         (subst (Le P (P .nil)) (sym (arc-slack-own G m g a among)) (all-among (λ b. T (arcSlackHolds P m b)) (G .arcs) a (s .arcs-hold) among))
 
