@@ -6,6 +6,8 @@ pub mod Algebra
 pub mod PriceKinds
 pub mod Merge
 pub mod Reach
+pub mod Examples
+pub mod Existence
 pub mod WithReads
 pub mod Parts
 pub mod Overlap
@@ -15,11 +17,12 @@ pub mod Network
 pub mod Tree
 pub mod Links
 pub mod Decompose
-pub mod Existence
 pub mod Items
 pub mod Telescope
 pub mod Totals
 pub mod LowerBound
 pub mod Lowest
 pub mod Limits
-pub mod Examples
+pub mod Longest
+pub mod Joined
+pub mod Linked
