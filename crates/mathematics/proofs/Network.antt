@@ -1,11 +1,11 @@
 -- A bare network: edges with costs and no capacities, jobs that carry amounts between nodes, loads on the edges. The definitions that Transport.antt
 -- states its theorem with, and the laws of a load that is altered at one edge.
-use Prim.Native.Nat.{ℕ, zero, suc, _+_, _≤_, _<_}
+use Prim.Native.Nat.{ℕ, suc, _+_, _≤_, _<_}
 use native.Mathlib.Omega.{arith}
-use mathlib.Core.Path.{_≡_, refl, sym, ap, ap₂, _∙_}
+use mathlib.Core.Path.{_≡_, refl, sym, ap, _∙_}
 use mathlib.Core.List.{List, [], _∷_, map}
 use mathlib.Core.Bool.{Bool, true, false, cond}
-use mathlib.Core.Logic.{_⊎_, inl, inr, _≢_}
+use mathlib.Core.Logic.{inl, inr, _≢_}
 use lib.Dec.{T, eqb, eqb→eq, eqb-refl}
 use Rattle.mathematics.specs.Price.{Prices, Le, sub}
 use Rattle.mathematics.specs.Lists.{All}
@@ -64,6 +64,10 @@ share-below u v k = both (eqb u v)
     both true = omega arith
     both false = omega arith
 
+-- the nodes are the numbers below N that are live
+abbrev pub IsNode : (ℕ → Bool) → ℕ → ℕ → Type 0
+IsNode live N u = (u < N) × T (live u)
+
 -- the amounts of the jobs from u, of those to u, of all
 abbrev pub jobsFrom : List Job → ℕ → ℕ
 jobsFrom [] u = 0
@@ -113,11 +117,20 @@ module _ {E : Type 0} where
   alter-edges (y ∷ ys) x (inr m) k = ap (λ zs. y .edge ∷ zs) (alter-edges ys x m k)
 
   -- what passes u changes by what the altered edge changes by
-  pub alter-passing : (side : Edge E → ℕ) (loads : List (Load E)) (x : Load E) (m : OneOf loads x) (k u : ℕ) →
+  alter-passing : (side : Edge E → ℕ) (loads : List (Load E)) (x : Load E) (m : OneOf loads x) (k u : ℕ) →
       passing side (alter loads x m k) u + share u (side (x .edge)) (x .amount) ≡ passing side loads u + share u (side (x .edge)) k
   alter-passing side [] x m k u = absurd m
   alter-passing side (y ∷ ys) x (inl e) k u = omega (arith, ap (λ (z : Load E). share u (side (z .edge)) (z .amount)) e)
   alter-passing side (y ∷ ys) x (inr m) k u = omega (arith, alter-passing side ys x m k u)
+
+  pub alter-more : (side : Edge E → ℕ) (loads : List (Load E)) (x : Load E) (m : OneOf loads x) (k u : ℕ) →
+      passing side (alter loads x m (x .amount + k)) u ≡ passing side loads u + share u (side (x .edge)) k
+  alter-more side loads x m k u = omega (arith, alter-passing side loads x m (x .amount + k) u, share-sum u (side (x .edge)) (x .amount) k)
+
+  pub alter-less : (side : Edge E → ℕ) (loads : List (Load E)) (x : Load E) (m : OneOf loads x) (j k u : ℕ) → j + k ≡ x .amount →
+      passing side (alter loads x m j) u + share u (side (x .edge)) k ≡ passing side loads u
+  alter-less side loads x m j k u e =
+      omega (arith, alter-passing side loads x m j u, share-sum u (side (x .edge)) j k, ap (share u (side (x .edge))) e)
 
   -- every other load stays
   pub alter-keeps : (loads : List (Load E)) (x : Load E) (m : OneOf loads x) (k : ℕ) (y : Load E) → y ≢ x → OneOf loads y → OneOf (alter loads x m k) y
@@ -138,9 +151,29 @@ module _ (P : Prices) where
   abbrev pub slack : (ℕ → P .El) → Edge (P .El) → P .El
   slack p e = sub P (P .add (e .cost) (p (e .from))) (p (e .to))
 
+  -- The root, 0, is a node; edges go between nodes and no cost is below nothing; each node is reached from the root and reaches it.
+  pub record IsNetwork (live : ℕ → Bool) (N : ℕ) (edges : List (Edge (P .El))) : Type 0 where
+    pub root-node : IsNode live N 0
+    pub from-nodes : All (λ e. IsNode live N (e .from)) edges
+    pub to-nodes : All (λ e. IsNode live N (e .to)) edges
+    pub costs-hold : All (λ e. Le P (P .nil) (e .cost)) edges
+    pub from-root : (u : ℕ) → IsNode live N u → Walk edges 0 u
+    pub to-root : (u : ℕ) → IsNode live N u → Walk edges u 0
+
+  -- a load that may stand: the ends of the edge are nodes, its slack is not below nothing, and is nothing where the edge carries something
+  pub record Sound (live : ℕ → Bool) (N : ℕ) (p : ℕ → P .El) (x : Load (P .El)) : Type 0 where
+    pub from-node : IsNode live N (x .edge .from)
+    pub to-node : IsNode live N (x .edge .to)
+    pub slack-holds : Le P (P .nil) (slack p (x .edge))
+    pub tight : 1 ≤ x .amount → slack p (x .edge) ≡ P .nil
+
   -- The mark of a node is k edge costs added or taken away, from the root's: a way of k steps from the root, node 0, each along an edge or back along one,
   -- none to the root.
   pub data Way (edges : List (Edge (P .El))) (p : ℕ → P .El) : ℕ → ℕ → Type 0 where
     here : Way edges p 0 0
     forward : {k : ℕ} (e : Edge (P .El)) → OneOf edges e → Way edges p (e .from) k → e .to ≢ 0 → p (e .to) ≡ P .add (p (e .from)) (e .cost) → Way edges p (e .to) (suc k)
     backward : {k : ℕ} (e : Edge (P .El)) → OneOf edges e → Way edges p (e .to) k → e .from ≢ 0 → p (e .from) ≡ sub P (p (e .to)) (e .cost) → Way edges p (e .from) (suc k)
+
+  -- a way of fewer than n steps
+  abbrev pub WayWithin : List (Edge (P .El)) → (ℕ → P .El) → ℕ → ℕ → Type 0
+  WayWithin edges p n u = (k : ℕ) × (k < n) × Way edges p u k

@@ -3,18 +3,18 @@
 use Prim.Native.Nat.{ℕ, zero, suc, _+_, _≤_, _<_}
 use native.Mathlib.Omega.{arith}
 use native.Mathlib.Nat.{le-refl}
-use mathlib.Core.Path.{_≡_, refl, sym, ap, ap₂, subst, _∙_}
-use mathlib.Core.List.{List, [], _∷_, map}
-use mathlib.Core.Bool.{Bool, true, false, cond, not, _&&_, _||_}
+use mathlib.Core.Path.{_≡_, refl, sym, ap, ap₂, _∙_}
+use mathlib.Core.List.{List, [], _∷_}
+use mathlib.Core.Bool.{Bool, true, false, not, _&&_, _||_}
 use mathlib.Core.Logic.{_⊎_, inl, inr, _≢_}
 use lib.Dec.{T, T-not, eqb, eqb→eq, eqb-refl}
 use lib.ListN.{length}
-use Rattle.mathematics.specs.Price.{Prices, Ordered, Le, sub}
+use Rattle.mathematics.specs.Price.{Prices, Ordered}
 use Rattle.mathematics.specs.Cover.{oneIf}
 use Rattle.mathematics.specs.Range.{OneOf}
-use Rattle.mathematics.proofs.Basics.{or-cases, or-l, or-r, and-in, and-l, and-r, among-map, is-true, is-false, test}
+use Rattle.mathematics.proofs.Basics.{or-cases, or-l, or-r, and-l, and-r, among-map, is-false, test}
 use Rattle.mathematics.proofs.Algebra.{eq-of-sub, sub-from}
-use Rattle.mathematics.proofs.Network.{Edge, Load, edgesOf, slack, Way, here, forward, backward}
+use Rattle.mathematics.proofs.Network.{Edge, Load, edgesOf, slack, WayWithin, here, forward, backward}
 
 -- u is one of the nodes S
 abbrev pub member : List ℕ → ℕ → Bool
@@ -101,8 +101,10 @@ module _ (P : Prices) where
   -- the tree of the nodes S, grown from s
   pub data Tree (loads : List (Load (P .El))) (p : ℕ → P .El) (s : ℕ) : List ℕ → Type 0 where
     seed : Tree loads p s (s ∷ [])
-    forth : {S : List ℕ} → Tree loads p s S → (x : Load (P .El)) → OneOf loads x → slack P p (x .edge) ≡ P .nil → T (member S (x .edge .from)) → (T (member S (x .edge .to)) → ⊥) → Tree loads p s (x .edge .to ∷ S)
-    back : {S : List ℕ} → Tree loads p s S → (x : Load (P .El)) → OneOf loads x → slack P p (x .edge) ≡ P .nil → T (member S (x .edge .to)) → (T (member S (x .edge .from)) → ⊥) → 1 ≤ x .amount → Tree loads p s (x .edge .from ∷ S)
+    forth : {S : List ℕ} → Tree loads p s S → (x : Load (P .El)) → OneOf loads x → slack P p (x .edge) ≡ P .nil → T (member S (x .edge .from)) →
+        (T (member S (x .edge .to)) → ⊥) → Tree loads p s (x .edge .to ∷ S)
+    back : {S : List ℕ} → Tree loads p s S → (x : Load (P .El)) → OneOf loads x → slack P p (x .edge) ≡ P .nil → T (member S (x .edge .to)) →
+        (T (member S (x .edge .from)) → ⊥) → 1 ≤ x .amount → Tree loads p s (x .edge .from ∷ S)
 
   pub seed-in : (loads : List (Load (P .El))) (p : ℕ → P .El) (s : ℕ) (S : List ℕ) → Tree loads p s S → T (member S s)
   seed-in loads p s S seed = member-here s []
@@ -119,20 +121,16 @@ module _ (P : Prices) where
       back (under-other-marks loads p q s S₀ t (λ u k. h u (member-there (x .edge .from) S₀ u k))) x m
       (rw (h (x .edge .to) (member-there (x .edge .from) S₀ (x .edge .to) i), h (x .edge .from) (member-here (x .edge .from) S₀)) z) i o k
 
-  -- a tree from the root gives a way to each of its nodes, of fewer steps than it has nodes
-  abbrev pub WayWithin : List (Edge (P .El)) → (ℕ → P .El) → ℕ → ℕ → Type 0
-  WayWithin edges p n u = (k : ℕ) × (k < n) × Way P edges p u k
-
-  way-longer : (edges : List (Edge (P .El))) (p : ℕ → P .El) (n u : ℕ) → WayWithin edges p n u → WayWithin edges p (suc n) u
+  way-longer : (edges : List (Edge (P .El))) (p : ℕ → P .El) (n u : ℕ) → WayWithin P edges p n u → WayWithin P edges p (suc n) u
   way-longer edges p n u w = (w .0, omega (arith, w .1), w .2)
 
   way-forward : Ordered P → (edges : List (Edge (P .El))) (p : ℕ → P .El) (n : ℕ) (e : Edge (P .El)) → OneOf edges e → slack P p e ≡ P .nil → e .to ≢ 0 →
-      WayWithin edges p n (e .from) → WayWithin edges p (suc n) (e .to)
+      WayWithin P edges p n (e .from) → WayWithin P edges p (suc n) (e .to)
   way-forward L edges p n e m z d w =
       (suc (w .0), omega (arith, w .1), forward e m (w .2) d (eq-of-sub P L (p (e .to)) (P .add (e .cost) (p (e .from))) z ∙ L .add-comm (e .cost) (p (e .from))))
 
   way-backward : Ordered P → (edges : List (Edge (P .El))) (p : ℕ → P .El) (n : ℕ) (e : Edge (P .El)) → OneOf edges e → slack P p e ≡ P .nil → e .from ≢ 0 →
-      WayWithin edges p n (e .to) → WayWithin edges p (suc n) (e .from)
+      WayWithin P edges p n (e .to) → WayWithin P edges p (suc n) (e .from)
   way-backward L edges p n e m z d w = (
     suc (w .0),
     omega (arith, w .1),
@@ -140,15 +138,18 @@ module _ (P : Prices) where
         (sym (sub-from P L (p (e .to)) (e .cost) (p (e .from)) (eq-of-sub P L (p (e .to)) (P .add (e .cost) (p (e .from))) z ∙ L .add-comm (e .cost) (p (e .from))))),
   )
 
-  pub ways : Ordered P → (loads : List (Load (P .El))) (p : ℕ → P .El) (S : List ℕ) → Tree loads p 0 S → (u : ℕ) → T (member S u) → WayWithin (edgesOf loads) p (length S) u
+  -- a tree from the root gives a way to each of its nodes, of fewer steps than it has nodes
+  pub ways : Ordered P → (loads : List (Load (P .El))) (p : ℕ → P .El) (S : List ℕ) → Tree loads p 0 S → (u : ℕ) → T (member S u) → WayWithin P (edgesOf loads) p (length S) u
   ways L loads p S seed u h = elim (member-cases 0 [] u h) [ inl e ↦ (0, le-refl 1, rw e here) | inr f ↦ absurd f ]
   ways L loads p S (forth {S = S₀} t x m z i o) u h =
       elim (member-cases (x .edge .to) S₀ u h) [
-        | inl e ↦ rw e (way-forward L (edgesOf loads) p (length S₀) (x .edge) (among-map (λ (x : Load (P .El)). x .edge) x loads m) z (λ d. o (rw d (seed-in loads p 0 S₀ t))) (ways L loads p S₀ t (x .edge .from) i))
+        | inl e ↦ rw e (way-forward L (edgesOf loads) p (length S₀) (x .edge) (among-map (λ (x : Load (P .El)). x .edge) x loads m) z
+            (λ d. o (rw d (seed-in loads p 0 S₀ t))) (ways L loads p S₀ t (x .edge .from) i))
         | inr f ↦ way-longer (edgesOf loads) p (length S₀) u (ways L loads p S₀ t u f)
       ]
   ways L loads p S (back {S = S₀} t x m z i o k) u h =
       elim (member-cases (x .edge .from) S₀ u h) [
-        | inl e ↦ rw e (way-backward L (edgesOf loads) p (length S₀) (x .edge) (among-map (λ (x : Load (P .El)). x .edge) x loads m) z (λ d. o (rw d (seed-in loads p 0 S₀ t))) (ways L loads p S₀ t (x .edge .to) i))
+        | inl e ↦ rw e (way-backward L (edgesOf loads) p (length S₀) (x .edge) (among-map (λ (x : Load (P .El)). x .edge) x loads m) z
+            (λ d. o (rw d (seed-in loads p 0 S₀ t))) (ways L loads p S₀ t (x .edge .to) i))
         | inr f ↦ way-longer (edgesOf loads) p (length S₀) u (ways L loads p S₀ t u f)
       ]
