@@ -21,6 +21,7 @@ pub mod Taken
 pub mod Dropped
 pub mod Links
 pub mod Decompose
+pub mod Base
 pub mod Items
 pub mod Telescope
 pub mod Totals

@@ -96,6 +96,14 @@ module _ {A : Type 0} (t : A → Bool) where
       go true e k = ((h .0, rw e tt), k)
       go false e k = k
 
+  pub all-pass : (xs : List A) → All (λ x. T (t x)) (passing t xs)
+  all-pass [] = tt
+  all-pass (x ∷ xs) = go (t x) refl (all-pass xs)
+    where
+      go : (b : Bool) → t x ≡ b → All (λ x. T (t x)) (passing t xs) → All (λ x. T (t x)) (cond b (x ∷ passing t xs) (passing t xs))
+      go true e k = (rw e tt, k)
+      go false e k = k
+
   pub all-failing : (P : A → Type 0) (xs : List A) → All P xs → All (λ x. P x × (T (t x) → ⊥)) (failing t xs)
   all-failing P [] h = tt
   all-failing P (x ∷ xs) h = go (t x) refl (all-failing P xs (h .1))
