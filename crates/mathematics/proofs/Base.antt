@@ -19,7 +19,7 @@ use Rattle.mathematics.proofs.Basics.{and-l, and-r, and-in, or-l, or-r,
 use Rattle.mathematics.proofs.Reach.{joining-arc, start-below, end-below}
 use Rattle.mathematics.proofs.Items.{Known, asks-known}
 use Rattle.mathematics.proofs.Loads.{Load, sumOver, worth, one, passing, failing, worth-append, length-parts, all-passing, all-pass}
-use Rattle.mathematics.proofs.Links.{Link, opening, closing, inside, across, reading, inNode, outNode, linkFrom, linkTo, passes, opens, OfGraph}
+use Rattle.mathematics.proofs.Links.{Link, opening, closing, inside, across, reading, firstOf, finalOf, passes, opens, OfGraph}
 
 -- the link of an item
 abbrev pub linkOf : Item → Link
@@ -310,7 +310,7 @@ module _ {E : Type 0} (G : Graph E) where
   Useful (closing v) = T (useful G v)
   Useful (inside v) = T (useful G v)
   Useful (across u v) = T (useful G u) × T (useful G v)
-  Useful (reading r) = ⊥
+  Useful (reading r) = T (useful G (firstOf r)) × T (useful G (finalOf r))
 
   pub base-of-graph : (rs : List (List ℕ)) → All (λ l. OfGraph G (l .what) × Useful (l .what)) (base rs)
   unfolding base

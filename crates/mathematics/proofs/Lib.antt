@@ -22,6 +22,7 @@ pub mod Dropped
 pub mod Links
 pub mod Decompose
 pub mod Base
+pub mod Wired
 pub mod Items
 pub mod Telescope
 pub mod Totals
