@@ -23,6 +23,7 @@ pub mod Links
 pub mod Decompose
 pub mod Base
 pub mod Wired
+pub mod Marked
 pub mod Items
 pub mod Telescope
 pub mod Totals
