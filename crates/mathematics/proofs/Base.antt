@@ -9,7 +9,7 @@ use mathlib.Core.Bool.{Bool, true, false, cond, _&&_, _||_}
 use mathlib.Core.Logic.{_⊎_, inl, inr, _≢_}
 use lib.Dec.{T, eqb, eqb→eq, eqb-refl}
 use lib.ListN.{length, getD, length-append, length-map}
-use Rattle.mathematics.specs.Lists.{All, Distinct}
+use Rattle.mathematics.specs.Lists.{All, Distinct, lastOf}
 use Rattle.mathematics.specs.Graph.{Vertex, Arc, Graph, noVertex, isStart, isEnd, hasArc, WellFormed}
 use Rattle.mathematics.specs.Cover.{Item, vert, arc, sameItem, oneIf, countOf, Ask, vertexAsks, arcAsk, asks}
 use Rattle.mathematics.specs.Bound.{rest}
@@ -19,7 +19,7 @@ use Rattle.mathematics.proofs.Basics.{and-l, and-r, and-in, or-l, or-r,
 use Rattle.mathematics.proofs.Reach.{joining-arc, start-below, end-below}
 use Rattle.mathematics.proofs.Items.{Known, asks-known}
 use Rattle.mathematics.proofs.Loads.{Load, sumOver, worth, one, passing, failing, worth-append, length-parts, all-passing, all-pass}
-use Rattle.mathematics.proofs.Links.{Link, opening, closing, inside, across, reading, firstOf, finalOf, passes, opens, OfGraph}
+use Rattle.mathematics.proofs.Links.{Link, opening, closing, inside, across, reading, passes, opens, OfGraph}
 
 -- the link of an item
 abbrev pub linkOf : Item → Link
@@ -310,7 +310,7 @@ module _ {E : Type 0} (G : Graph E) where
   Useful (closing v) = T (useful G v)
   Useful (inside v) = T (useful G v)
   Useful (across u v) = T (useful G u) × T (useful G v)
-  Useful (reading r) = T (useful G (firstOf r)) × T (useful G (finalOf r))
+  Useful (reading r) = T (useful G (getD r 0 0)) × T (useful G (lastOf 0 r))
 
   pub base-of-graph : (rs : List (List ℕ)) → All (λ l. OfGraph G (l .what) × Useful (l .what)) (base rs)
   unfolding base

@@ -24,6 +24,7 @@ pub mod Decompose
 pub mod Base
 pub mod Wired
 pub mod Marked
+pub mod MarksWithin
 pub mod Longest
 pub mod Joined
 pub mod Linked

@@ -41,6 +41,14 @@ side-cases {E} G low high own v = go (fromStart G v) (toEnd G v)
     go true false = inr (inl (tt, λ h. h, refl))
     go false b = inr (inr (λ h. h, refl))
 
+-- what holds of all three holds of it
+pub side-among : {E F : Type 0} (Q : E → Type 0) (G : Graph F) (low high own : E) (v : ℕ) → (T (useful G v) → Q own) → Q low → Q high → Q (sideMark G low high own v)
+side-among Q G low high own v a b c =
+    elim (side-cases G low high own v) [
+      | inl h ↦ subst Q (sym (h .1)) (a (h .0))
+      | inr d ↦ elim d [ inl h ↦ subst Q (sym (h .2)) b | inr h ↦ subst Q (sym (h .1)) c ]
+    ]
+
 pub side-useful : {E F : Type 0} (G : Graph F) (low high own : E) (v : ℕ) → T (useful G v) → sideMark G low high own v ≡ own
 side-useful G low high own v u = ap (λ b. cond b own (cond (fromStart G v) low high)) (is-true (useful G v) u)
 

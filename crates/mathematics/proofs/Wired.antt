@@ -7,7 +7,7 @@ use mathlib.Core.List.{List, [], _∷_, _++_, map}
 use mathlib.Core.Bool.{Bool, true, false, cond, _&&_, _||_}
 use mathlib.Core.Logic.{_⊎_, inl, inr, _≢_}
 use lib.Dec.{T, eqb, eqb→eq, eqb-refl}
-use lib.ListN.{length}
+use lib.ListN.{length, getD}
 use Rattle.mathematics.specs.Price.{Prices, Ordered, Le}
 use Rattle.mathematics.specs.Lists.{All, lastOf}
 use Rattle.mathematics.specs.Graph.{Arc, Graph, isStart, isEnd, hasArc, linked, joins, WellFormed}
@@ -19,7 +19,7 @@ use Rattle.mathematics.proofs.Reach.{LeadsTo, LeadsOn, linked-first, li
 use Rattle.mathematics.proofs.Items.{Known, cost-own, joins-ends}
 use Rattle.mathematics.proofs.Network.{Edge, Job, IsNode, IsNetwork, Walk, stop, step}
 use Rattle.mathematics.proofs.Loads.{Load}
-use Rattle.mathematics.proofs.Links.{Link, opening, closing, inside, across, reading, inNode, outNode, firstOf, finalOf, linkFrom, linkTo, OfGraph}
+use Rattle.mathematics.proofs.Links.{Link, opening, closing, inside, across, reading, inNode, outNode, linkFrom, linkTo, OfGraph}
 use Rattle.mathematics.proofs.Decompose.{readLoad, readLoads}
 use Rattle.mathematics.proofs.Base.{linkOf, base, usefulItem, Useful, base-of-graph, has-opening, has-closing, has-link}
 
@@ -75,7 +75,7 @@ module _ {E : Type 0} (G : Graph E) (g : WellFormed G) where
   link-nodes (closing v) u = (out-node v u, root-node)
   link-nodes (inside v) u = (in-node v u, out-node v u)
   link-nodes (across u v) h = (out-node u (h .0), in-node v (h .1))
-  link-nodes (reading r) h = (in-node (firstOf r) (h .0), out-node (finalOf r) (h .1))
+  link-nodes (reading r) h = (in-node (getD r 0 0) (h .0), out-node (lastOf 0 r) (h .1))
 
 module _ (P : Prices) (G : Graph (P .El)) where
   abbrev pub linkCost : Link → P .El
