@@ -103,3 +103,80 @@ module _ (P : Prices) (L : Ordered P) (G : Graph (P .El)) (g : WellFormed G) (p 
     way-within here = within-nil P G 0 (p 0) root
     way-within (forward {k = k} e m w n q) = forward-edge k e m n q (way-within w)
     way-within (backward {k = k} e m w n q) = backward-edge k e m n q (way-within w)
+
+-- ---- the greatest and the least
+
+below : ℕ → List ℕ
+below zero = []
+below (suc k) = k ∷ below k
+
+below-has : (k u : ℕ) → u < k → OneOf (below k) u
+unfolding below
+below-has zero u h = absurd (omega arith)
+below-has (suc k) u h = elim (test (eqb u k)) [ inl t ↦ inl (eqb→eq u k t) | inr t ↦ inr (below-has k u (other t)) ]
+  where
+    other : (T (eqb u k) → ⊥) → u < k
+    other t =
+        let n : u ≢ k = λ e. t (subst (λ (m : ℕ). T (eqb u m)) e (eqb-refl u)) in
+        omega arith
+
+below-all : (k : ℕ) → All (λ u. u < k) (below k)
+unfolding below
+below-all zero = tt
+below-all (suc k) = (omega arith, all-weaken (λ u. u < k) (λ u. u < suc k) (below k) (λ u h. omega arith) (below-all k))
+
+-- one of finitely many is furthest, by an order that compares any two
+furthest : (R : ℕ → ℕ → Type 0) → ((a b : ℕ) → R a b ⊎ R b a) → ((a b c : ℕ) → R a b → R b c → R a c) → (Q : ℕ → Type 0) (u : ℕ) (us : List ℕ) → Q u → All Q us →
+    (m : ℕ) × Q m × R u m × All (λ v. R v m) us
+furthest R total trans Q u [] q qs = (u, q, elim (total u u) [ inl r ↦ r | inr r ↦ r ], tt)
+furthest R total trans Q u (v ∷ us) q qs =
+    let (m, k, r, all) = furthest R total trans Q u us q (qs .1) in
+    pick m k r all (total v m)
+  where
+    pick : (m : ℕ) → Q m → R u m → All (λ v. R v m) us → R v m ⊎ R m v → (m : ℕ) × Q m × R u m × All (λ v. R v m) (v ∷ us)
+    pick m k r all (inl s) = (m, k, r, (s, all))
+    pick m k r all (inr s) = (v, qs .0, trans u m v r s, (elim (total v v) [ inl t ↦ t | inr t ↦ t ], all-weaken (λ w. R w m) (λ w. R w v) us (λ w t. trans w m v t s) all))
+
+module _ {E : Type 0} (G : Graph E) (g : WellFormed G) where
+  -- among the nodes one is furthest
+  furthest-node : (R : ℕ → ℕ → Type 0) → ((a b : ℕ) → R a b ⊎ R b a) → ((a b c : ℕ) → R a b → R b c → R a c) → (m : ℕ) × Node G m × ((u : ℕ) → Node G u → R u m)
+  furthest-node R total trans =
+      let nodes : List ℕ = passing (live G) (below (inNode (length (G .vertices)))) in
+      let (m, n, r, all) = furthest R total trans (Node G) 0 nodes (root-node G g) (all-passing (live G) (λ u. u < inNode (length (G .vertices))) (below (inNode (length (G .vertices)))) (below-all (inNode (length (G .vertices))))) in
+      (m, n, λ u k. all-among (λ v. R v m) nodes u all (among-passing (live G) (below (inNode (length (G .vertices)))) u (below-has (inNode (length (G .vertices))) u (k .0)) (k .1)))
+
+module _ (P : Prices) (L : Ordered P) (G : Graph (P .El)) (g : WellFormed G) (p : ℕ → P .El) where
+  -- Marks below and above those of all nodes, and the lower not above the opening price; each is as small as a node's mark.
+  pub record Extremes (k : ℕ) : Type 0 where
+    pub low : P .El
+    pub high : P .El
+    pub low-least : (u : ℕ) → Node G u → Le P low (p u)
+    pub high-most : (u : ℕ) → Node G u → Le P (p u) high
+    pub low-below-opening : Le P low (G .opening)
+    pub low-within : MarkWithin P G k low
+    pub high-within : MarkWithin P G k high
+
+  pub extremes : (k : ℕ) → ((u : ℕ) → Node G u → MarkWithin P G k (p u)) → Extremes k
+  extremes k within =
+      let (t, n, most) = furthest-node G g (λ a b. Le P (p a) (p b)) (λ a b. L .le-total (p a) (p b)) (λ a b c. L .le-trans (p a) (p b) (p c)) in
+      let (b, o, least) = furthest-node G g (λ a b. Le P (p b) (p a)) (λ a b. L .le-total (p b) (p a)) (λ a b c r s. L .le-trans (p c) (p b) (p a) s r) in
+      elim (L .le-total (G .opening) (p b)) [
+        | inl h ↦ record {
+          low = G .opening;
+          high = p t;
+          low-least = λ u m. L .le-trans (G .opening) (p b) (p u) h (least u m);
+          high-most = most;
+          low-below-opening = L .le-refl (G .opening);
+          low-within = within-opening P G k (G .opening) refl;
+          high-within = within t n;
+        }
+        | inr h ↦ record {
+          low = p b;
+          high = p t;
+          low-least = least;
+          high-most = most;
+          low-below-opening = h;
+          low-within = within b o;
+          high-within = within t n;
+        }
+      ]
