@@ -171,6 +171,14 @@ one-counted c a (b ∷ bs) d (inr m) =
 
 -- ---- the links and what they must carry
 
+-- an opening or closing link with nothing that it must carry
+abbrev pub Unasked : Link → ℕ → Type 0
+Unasked (opening v) k = k ≡ 0
+Unasked (closing v) k = k ≡ 0
+Unasked (inside v) k = Unit {0}
+Unasked (across u v) k = Unit {0}
+Unasked (reading r) k = Unit {0}
+
 module _ {E : Type 0} (G : Graph E) where
   abbrev pub usefulItem : Item → Bool
   usefulItem (vert v) = useful G v
@@ -312,27 +320,28 @@ module _ {E : Type 0} (G : Graph E) where
   Useful (across u v) = T (useful G u) × T (useful G v)
   Useful (reading r) = T (useful G (getD r 0 0)) × T (useful G (lastOf 0 r))
 
-  pub base-of-graph : (rs : List (List ℕ)) → All (λ l. OfGraph G (l .what) × Useful (l .what)) (base rs)
+  -- a link of the graph between useful vertices; an opening or closing link need carry nothing
+  abbrev pub OfBase : Load Link → Type 0
+  OfBase l = OfGraph G (l .what) × Useful (l .what) × Unasked (l .what) (l .amount)
+
+  pub base-of-graph : (rs : List (List ℕ)) → All OfBase (base rs)
   unfolding base
   base-of-graph rs =
-      all-append Fine openLoads (closeLoads ++ askLoads rs)
-      (all-map Fine emptyOpening (passing usefulStart (places 0 (G .vertices)))
-      (all-weaken (λ v. T (usefulStart v)) (λ v. T (isStart G v) × T (useful G v)) (passing usefulStart (places 0 (G .vertices)))
-      (λ v h. (and-l (isStart G v) (useful G v) h, and-r (isStart G v) (useful G v) h)) (all-pass usefulStart (places 0 (G .vertices)))))
-      (all-append Fine closeLoads (askLoads rs)
-      (all-map Fine emptyClosing (passing usefulEnd (places 0 (G .vertices)))
-      (all-weaken (λ v. T (usefulEnd v)) (λ v. T (isEnd G v) × T (useful G v)) (passing usefulEnd (places 0 (G .vertices)))
-      (λ v h. (and-l (isEnd G v) (useful G v) h, and-r (isEnd G v) (useful G v) h)) (all-pass usefulEnd (places 0 (G .vertices)))))
-      (all-map Fine (askLoad rs) (passing usefulAsk (asks G))
-      (all-weaken (λ a. Known G (a .item) × T (usefulAsk a)) (λ a. Fine (askLoad rs a)) (passing usefulAsk (asks G)) (λ a h. fine (a .item) (h .0) (h .1))
+      all-append OfBase openLoads (closeLoads ++ askLoads rs)
+      (all-map OfBase emptyOpening (passing usefulStart (places 0 (G .vertices)))
+      (all-weaken (λ v. T (usefulStart v)) (λ v. T (isStart G v) × T (useful G v) × (0 ≡ 0)) (passing usefulStart (places 0 (G .vertices)))
+      (λ v h. (and-l (isStart G v) (useful G v) h, and-r (isStart G v) (useful G v) h, refl)) (all-pass usefulStart (places 0 (G .vertices)))))
+      (all-append OfBase closeLoads (askLoads rs)
+      (all-map OfBase emptyClosing (passing usefulEnd (places 0 (G .vertices)))
+      (all-weaken (λ v. T (usefulEnd v)) (λ v. T (isEnd G v) × T (useful G v) × (0 ≡ 0)) (passing usefulEnd (places 0 (G .vertices)))
+      (λ v h. (and-l (isEnd G v) (useful G v) h, and-r (isEnd G v) (useful G v) h, refl)) (all-pass usefulEnd (places 0 (G .vertices)))))
+      (all-map OfBase (askLoad rs) (passing usefulAsk (asks G))
+      (all-weaken (λ a. Known G (a .item) × T (usefulAsk a)) (λ a. OfBase (askLoad rs a)) (passing usefulAsk (asks G)) (λ a h. fine (a .item) (rest rs (a .item) (a .demand)) (h .0) (h .1))
       (all-passing usefulAsk (λ a. Known G (a .item)) (asks G) (asks-known G)))))
     where
-      Fine : Load Link → Type 0
-      Fine l = OfGraph G (l .what) × Useful (l .what)
-
-      fine : (i : Item) → Known G i → T (usefulItem i) → OfGraph G (linkOf i) × Useful (linkOf i)
-      fine (vert v) k u = (k, u)
-      fine (arc u v) k h = (k, (and-l (useful G u) (useful G v) h, and-r (useful G u) (useful G v) h))
+      fine : (i : Item) (k : ℕ) → Known G i → T (usefulItem i) → OfGraph G (linkOf i) × Useful (linkOf i) × Unasked (linkOf i) k
+      fine (vert v) n k u = (k, u, tt)
+      fine (arc u v) n k h = (k, (and-l (useful G u) (useful G v) h, and-r (useful G u) (useful G v) h), tt)
 
   vertex-ask : (v k : ℕ) (xs : List Vertex) → k ≤ v → v < k + length xs → (a : Ask) × OneOf (vertexAsks k xs) a × (a .item ≡ vert v)
   vertex-ask v k [] l h = absurd (omega arith)

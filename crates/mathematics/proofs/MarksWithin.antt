@@ -20,7 +20,7 @@ use Rattle.mathematics.proofs.Items.{cost-own, joins-own}
 use Rattle.mathematics.proofs.Network.{Edge, Way, here, forward, backward}
 use Rattle.mathematics.proofs.Loads.{Load, passing, all-passing}
 use Rattle.mathematics.proofs.Links.{Link, opening, closing, inside, across, reading, inNode, linkFrom, linkTo, OfGraph}
-use Rattle.mathematics.proofs.Base.{base, base-of-graph, Useful, among-passing}
+use Rattle.mathematics.proofs.Base.{base, base-of-graph, OfBase, among-passing}
 use Rattle.mathematics.proofs.Wired.{live, Node, root-node, linkCost, edgeOf, loadEdge, edges}
 
 -- what is among the images is the image of one of the list
@@ -86,7 +86,7 @@ module _ (P : Prices) (L : Ordered P) (G : Graph (P .El)) (g : WellFormed G) (p 
     link-of : (e : Edge (P .El)) → OneOf (edges P G rs) e → (l : Link) × OfGraph G l × (e ≡ edgeOf P G l)
     link-of e m =
         let (b, o, q) = among-image (loadEdge P G) (base G rs) e m in
-        (b .what, all-among (λ c. OfGraph G (c .what) × Useful G (c .what)) (base G rs) b (base-of-graph G rs) o .0, q)
+        (b .what, all-among (OfBase G) (base G rs) b (base-of-graph G rs) o .0, q)
 
     forward-edge : (k : ℕ) (e : Edge (P .El)) → OneOf (edges P G rs) e → e .to ≢ 0 → p (e .to) ≡ P .add (p (e .from)) (e .cost) → MarkWithin P G k (p (e .from)) → MarkWithin P G (suc k) (p (e .to))
     forward-edge k e m =

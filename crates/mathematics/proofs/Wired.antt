@@ -21,7 +21,7 @@ use Rattle.mathematics.proofs.Network.{Edge, Job, IsNode, IsNetwork, Wa
 use Rattle.mathematics.proofs.Loads.{Load}
 use Rattle.mathematics.proofs.Links.{Link, opening, closing, inside, across, reading, inNode, outNode, linkFrom, linkTo, OfGraph}
 use Rattle.mathematics.proofs.Decompose.{readLoad, readLoads}
-use Rattle.mathematics.proofs.Base.{linkOf, base, usefulItem, Useful, base-of-graph, has-opening, has-closing, has-link}
+use Rattle.mathematics.proofs.Base.{linkOf, base, usefulItem, Useful, OfBase, base-of-graph, has-opening, has-closing, has-link}
 
 -- the root, and the sides of the useful vertices
 unfoldable pub live : {E : Type 0} → Graph E → ℕ → Bool
@@ -175,21 +175,18 @@ module _ (P : Prices) (G : Graph (P .El)) where
     wired c =
         record {
           root-node = root-node G g;
-          from-nodes = all-map (λ e. Node G (e .from)) loadEdge (base G rs) (all-weaken Fine (λ b. Node G (linkFrom (b .what))) (base G rs) (λ b h. link-nodes G g (b .what) (h .1) .0) (base-of-graph G rs));
-          to-nodes = all-map (λ e. Node G (e .to)) loadEdge (base G rs) (all-weaken Fine (λ b. Node G (linkTo 0 (b .what))) (base G rs) (λ b h. link-nodes G g (b .what) (h .1) .1) (base-of-graph G rs));
-          costs-hold = all-map (λ e. Le P (P .nil) (e .cost)) loadEdge (base G rs) (all-weaken Fine (λ b. Le P (P .nil) (linkCost (b .what))) (base G rs) (λ b h. cost-holds c (b .what) (h .0)) (base-of-graph G rs));
+          from-nodes = all-map (λ e. Node G (e .from)) loadEdge (base G rs) (all-weaken (OfBase G) (λ b. Node G (linkFrom (b .what))) (base G rs) (λ b h. link-nodes G g (b .what) (h .1) .0) (base-of-graph G rs));
+          to-nodes = all-map (λ e. Node G (e .to)) loadEdge (base G rs) (all-weaken (OfBase G) (λ b. Node G (linkTo 0 (b .what))) (base G rs) (λ b h. link-nodes G g (b .what) (h .1) .1) (base-of-graph G rs));
+          costs-hold = all-map (λ e. Le P (P .nil) (e .cost)) loadEdge (base G rs) (all-weaken (OfBase G) (λ b. Le P (P .nil) (linkCost (b .what))) (base G rs) (λ b h. cost-holds c (b .what) (h .0)) (base-of-graph G rs));
           from-root = walk-to;
           to-root = walk-from;
         }
-      where
-        Fine : Load Link → Type 0
-        Fine b = OfGraph G (b .what) × Useful G (b .what)
 
     -- jobs go from node to node
     job-nodes : All (λ r. Useful G (reading r)) rs → All (λ b. Node G (linkFrom (b .what)) × Node G (linkTo 0 (b .what))) (base G rs ++ readLoads rs)
     job-nodes h =
         all-append Ends (base G rs) (readLoads rs)
-        (all-weaken (λ b. OfGraph G (b .what) × Useful G (b .what)) Ends (base G rs) (λ b k. link-nodes G g (b .what) (k .1)) (base-of-graph G rs))
+        (all-weaken (OfBase G) Ends (base G rs) (λ b k. link-nodes G g (b .what) (k .1)) (base-of-graph G rs))
         (all-map Ends readLoad rs (all-weaken (λ r. Useful G (reading r)) (λ r. Ends (readLoad r)) rs (λ r k. link-nodes G g (reading r) k) h))
       where
         Ends : Load Link → Type 0
