@@ -25,6 +25,7 @@ pub mod Base
 pub mod Wired
 pub mod Marked
 pub mod MarksWithin
+pub mod Filled
 pub mod Longest
 pub mod Joined
 pub mod Linked
