@@ -171,13 +171,13 @@ one-counted c a (b ∷ bs) d (inr m) =
 
 -- ---- the links and what they must carry
 
--- an opening or closing link with nothing that it must carry
+-- no link of a read, and nothing that an opening or closing link must carry
 abbrev pub Unasked : Link → ℕ → Type 0
 Unasked (opening v) k = k ≡ 0
 Unasked (closing v) k = k ≡ 0
 Unasked (inside v) k = Unit {0}
 Unasked (across u v) k = Unit {0}
-Unasked (reading r) k = Unit {0}
+Unasked (reading r) k = ⊥
 
 module _ {E : Type 0} (G : Graph E) where
   abbrev pub usefulItem : Item → Bool

@@ -2,7 +2,7 @@
 -- the sum of weighted paths from starts to ends, no more of them than there are loads and reads, which hold every read.
 use Prim.Native.Nat.{ℕ, zero, suc, _+_, _*_, _≤_, _<_}
 use native.Mathlib.Omega.{arith}
-use native.Mathlib.Nat.{one-mul, mul-zero, zero-add}
+use native.Mathlib.Nat.{one-mul, mul-zero, zero-mul, zero-add}
 use mathlib.Core.Path.{_≡_, refl, sym, ap, ap₂, subst, _∙_}
 use mathlib.Core.List.{List, [], _∷_, _++_, map}
 use mathlib.Core.Bool.{Bool, true, false}
@@ -41,13 +41,20 @@ sum-some {A} g (x ∷ xs) h = go (g x) refl (sum-some g xs)
     go zero e more = let (y, m, k) = more (omega arith) in (y, inr m, k)
     go (suc n) e more = (x, inl refl, omega arith)
 
-worth-some : {A : Type 0} (g : A → ℕ) (xs : List (Load A)) → 1 ≤ worth g xs → (x : Load A) × OneOf xs x × (1 ≤ g (x .what))
+pub worth-some : {A : Type 0} (g : A → ℕ) (xs : List (Load A)) → 1 ≤ worth g xs → (x : Load A) × OneOf xs x × (1 ≤ x .amount) × (1 ≤ g (x .what))
 worth-some g [] h = absurd (omega arith)
-worth-some {A} g (x ∷ xs) h = go (g (x .what)) refl (worth-some g xs)
+worth-some {A} g (x ∷ xs) h = go (x .amount) (g (x .what)) refl refl (worth-some g xs)
   where
-    go : (n : ℕ) → g (x .what) ≡ n → (1 ≤ worth g xs → (y : Load A) × OneOf xs y × (1 ≤ g (y .what))) → (y : Load A) × OneOf (x ∷ xs) y × (1 ≤ g (y .what))
-    go zero e more = let (y, m, k) = more (subst (λ (n : ℕ). 1 ≤ n) (rw (e, mul-zero, zero-add)) h) in (y, inr m, k)
-    go (suc n) e more = (x, inl refl, omega arith)
+    Some : List (Load A) → Type 0
+    Some ys = (y : Load A) × OneOf ys y × (1 ≤ y .amount) × (1 ≤ g (y .what))
+
+    later : worth g (x ∷ xs) ≡ worth g xs → (1 ≤ worth g xs → Some xs) → Some (x ∷ xs)
+    later e more = let (y, m, j, k) = more (subst (λ (n : ℕ). 1 ≤ n) e h) in (y, inr m, j, k)
+
+    go : (m n : ℕ) → x .amount ≡ m → g (x .what) ≡ n → (1 ≤ worth g xs → Some xs) → Some (x ∷ xs)
+    go zero n d e more = later (rw (d, zero-mul, zero-add) refl) more
+    go (suc m) zero d e more = later (rw (e, mul-zero, zero-add) refl) more
+    go (suc m) (suc n) d e more = (x, inl refl, omega arith, omega arith)
 
 one-among : {A : Type 0} (g : A → ℕ) (xs : List (Load A)) (x : Load A) → OneOf xs x → x .amount * g (x .what) ≤ worth g xs
 one-among g [] x m = absurd m
@@ -139,7 +146,7 @@ module _ {E : Type 0} (G : Graph E) (Opens Closes : ℕ → Type 0) where
           reading-is r,
           one-among (isReading r) (loads ++ readLoads rs) (readLoad r) (among-right _ loads (readLoads rs) (among-map readLoad r rs m)),
         ) in
-        let (x, n, k) = worth-some (sumOver (isReading r)) (w .walks) (rw (w .same (isReading r)) some) in
+        let (x, n, _, k) = worth-some (sumOver (isReading r)) (w .walks) (rw (w .same (isReading r)) some) in
         let (l, o, j) = sum-some (isReading r) (x .what) k in
         held-some (paths (map asWeighted (w .walks))) r (pathOf (x .what))
         (among-map (λ (w : Weighted). w .path) (asWeighted x) (map asWeighted (w .walks)) (among-map asWeighted x (w .walks) n))

@@ -35,7 +35,7 @@ module _ (P : Prices) where
   climb-append x (r ∷ ss) s = climb-append (cond (r .up) (P .add x (r .cost)) (sub P x (r .cost))) ss s
 
 module _ (P : Prices) (G : Graph (P .El)) where
-  within-equal : (j k : ℕ) (x y : P .El) → j ≤ k → y ≡ x → MarkWithin P G j x → MarkWithin P G k y
+  pub within-equal : (j k : ℕ) (x y : P .El) → j ≤ k → y ≡ x → MarkWithin P G j x → MarkWithin P G k y
   within-equal j k x y h e w = record { opened = w .opened; steps = w .steps; few = omega (arith, w .few); of-arcs = w .of-arcs; reaches = e ∙ w .reaches }
 
   within-opening : (k : ℕ) (x : P .El) → x ≡ G .opening → MarkWithin P G k x

@@ -103,13 +103,13 @@ module _ (P : Prices) (G : Graph (P .El)) where
   jobs rs = map jobOf (base G rs ++ readLoads rs)
 
   module _ (L : Ordered P) (g : WellFormed G) (rs : List (List ℕ)) where
-    has-edge : (l : Link) → (k : ℕ) × OneOf (base G rs) (record { amount = k; what = l }) → OneOf (edges rs) (edgeOf l)
+    pub has-edge : (l : Link) → (k : ℕ) × OneOf (base G rs) (record { amount = k; what = l }) → OneOf (edges rs) (edgeOf l)
     has-edge l (k, m) = among-map loadEdge (record { amount = k; what = l }) (base G rs) m
 
-    inside-edge : (v : ℕ) → T (useful G v) → OneOf (edges rs) (edgeOf (inside v))
+    pub inside-edge : (v : ℕ) → T (useful G v) → OneOf (edges rs) (edgeOf (inside v))
     inside-edge v u = has-edge (inside v) (has-link G rs (vert v) (useful-below G g v u) u)
 
-    across-edge : (u v : ℕ) → T (hasArc (G .arcs) u v) → T (useful G u) → T (useful G v) → OneOf (edges rs) (edgeOf (across u v))
+    pub across-edge : (u v : ℕ) → T (hasArc (G .arcs) u v) → T (useful G u) → T (useful G v) → OneOf (edges rs) (edgeOf (across u v))
     across-edge u v t x y = has-edge (across u v) (has-link G rs (arc u v) t (and-in (useful G u) (useful G v) x y))
 
     -- from the in side of u along linked useful vertices to the in side of the last, and on
