@@ -38,3 +38,4 @@ pub mod Totals
 pub mod LowerBound
 pub mod Lowest
 pub mod Limits
+pub mod Lying
