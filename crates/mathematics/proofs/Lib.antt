@@ -39,3 +39,4 @@ pub mod LowerBound
 pub mod Lowest
 pub mod Limits
 pub mod Lying
+pub mod Duality
