@@ -89,7 +89,7 @@ sum-passing t f (x ∷ xs) h = go (t x) refl (sum-passing t f xs (h .1))
 
 -- ---- no two asks are for one item
 
-same-item : (i j : Item) → T (sameItem i j) → i ≡ j
+pub same-item : (i j : Item) → T (sameItem i j) → i ≡ j
 same-item (vert a) (vert b) t = ap vert (eqb→eq a b t)
 same-item (vert a) (arc b c) t = absurd t
 same-item (arc a b) (vert c) t = absurd t

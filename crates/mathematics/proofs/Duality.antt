@@ -17,12 +17,12 @@ use Rattle.mathematics.specs.Cover.{Item, vert, arc, sameItem, oneIf, As
 use Rattle.mathematics.specs.Prepare.{prepare}
 use Rattle.mathematics.specs.Bound.{readsThrough, rest, Marks, startSlack, endSlack, SlacksHold, boundWith, bound}
 use Rattle.mathematics.specs.Exists.{Coverable}
-use Rattle.mathematics.specs.Range.{OneOf, pathLimit, weightLimit, MarkWithin, CostsHold}
+use Rattle.mathematics.specs.Range.{OneOf, startCount, endCount, sumOfDemands, pathLimit, weightLimit, MarkWithin, CostsHold}
 use Rattle.mathematics.specs.Reach.{useful}
 use Rattle.mathematics.proofs.Basics.{all-among, all-from, all-map, all-unmap, all-weaken, is-true, test}
 use Rattle.mathematics.proofs.Merge.{merge, merge-total, merge-weight, merge-length, merge-weights, merge-all, merge-distinct, merge-holds}
 use Rattle.mathematics.proofs.Existence.{held-by-some}
-use Rattle.mathematics.proofs.WithReads.{withReads}
+use Rattle.mathematics.proofs.WithReads.{withReads, path-with-reads}
 use Rattle.mathematics.proofs.Prepared.{prepared-linked, prepared-fewer, prepared-cover-is-cover}
 use Rattle.mathematics.proofs.Telescope.{itemSlack}
 use Rattle.mathematics.proofs.Totals.{owed}
@@ -34,10 +34,10 @@ use Rattle.mathematics.proofs.Loads.{Load, worth, one, worth-append}
 use Rattle.mathematics.proofs.Links.{Link, opening, closing, inside, across, reading, inNode, outNode, passes, opens, OfGraph, Used, AtEnds}
 use Rattle.mathematics.proofs.Decompose
 use Rattle.mathematics.proofs.Decompose.{readLoad, readLoads, worth-some, Decomposed, decompose}
-use Rattle.mathematics.proofs.Base.{linkOf, base, base-short, base-opens, base-amount, base-passes, Useful, Unasked, OfBase, base-of-graph, has-opening, has-closing}
+use Rattle.mathematics.proofs.Base.{same-item, usefulItem, base, base-short, base-opens, base-amount, base-passes, Useful, Unasked, OfBase, base-of-graph, has-opening, has-closing}
 use Rattle.mathematics.proofs.Wired.{live, Node, in-node, out-node, edgeOf, loadEdge, edges, jobs, has-edge, inside-edge, across-edge, wired, job-sources, job-targets}
 use Rattle.mathematics.proofs.Marked.{marksOf, side-among, open-slack, close-slack, inside-slack, across-slack, Spread, slacks-hold}
-use Rattle.mathematics.proofs.MarksWithin.{within-equal, way-within, Extremes, extremes}
+use Rattle.mathematics.proofs.MarksWithin.{among-image, within-equal, way-within, Extremes, extremes}
 use Rattle.mathematics.proofs.Filled.{Filling, asMust, asAdded, asFull, full-worth, asLoad, fill, jobs-total-worth, full-balanced, opens-leaving}
 use Rattle.mathematics.proofs.Lying.{idle-asks, prepared-useful}
 
@@ -64,6 +64,10 @@ module _ (P : Prices) (G : Graph (P .El)) where
     opened : worth opens (map asFull fillings) ≤ worth one (base G rs) + length rs
     root-nil : node-marks 0 ≡ P .nil
     small : (u : ℕ) → Node G u → MarkWithin P G (2 * length (G .vertices)) (node-marks u)
+
+counted : (b : Bool) → 1 ≤ oneIf b + 0 → T b
+counted true k = tt
+counted false k = absurd (omega arith)
 
 all-both : {A : Type 0} (Q R : A → Type 0) (xs : List A) → All Q xs → All R xs → All (λ x. Q x × R x) xs
 all-both Q R [] h k = tt
@@ -142,6 +146,10 @@ module _ (P : Prices) (L : Ordered P) (G : Graph (P .El)) (g : WellFormed G) (co
           low-below-opening = ends .low-below-opening;
         }
 
+    shown : SlacksHold P G marks
+    unfolding marks
+    shown = slacks-hold P L G g p (ends .low) (ends .high) spread costs
+
     marks-within : (v : ℕ) → v < length (G .vertices) → MarkWithin P G (2 * length (G .vertices)) (marks .into v) × MarkWithin P G (2 * length (G .vertices)) (marks .out v)
     unfolding marks
     marks-within v b = (
@@ -182,3 +190,95 @@ module _ (P : Prices) (L : Ordered P) (G : Graph (P .El)) (g : WellFormed G) (co
 
     decomposed : All (λ r. OfGraph G (reading r)) rs → Decomposed G Opens Closes (map asFull (c .fillings)) rs
     decomposed t = decompose G Opens Closes (g .rises) (map asFull (c .fillings)) rs loads-sound t (c .balance)
+
+    -- what is added to an item's link shows that its slack is nothing
+    link-tight : (i : Item) (l : Link) (k : ℕ) → 1 ≤ passes i l → Useful G l → Unasked l k → slack P p (edgeOf P G l) ≡ P .nil → itemSlack P G marks i ≡ P .nil
+    unfolding marks
+    link-tight i (opening v) k h u z t = absurd (omega arith)
+    link-tight i (closing v) k h u z t = absurd (omega arith)
+    link-tight i (inside v) k h u z t =
+        subst (λ j. itemSlack P G marks j ≡ P .nil) (sym (same-item i (vert v) (counted (sameItem i (vert v)) h)))
+        (sym (inside-slack P L G g p (ends .low) (ends .high) v u) ∙ t)
+    link-tight i (across u v) k h x z t =
+        subst (λ j. itemSlack P G marks j ≡ P .nil) (sym (same-item i (arc u v) (counted (sameItem i (arc u v)) h)))
+        (sym (across-slack P L G g p (ends .low) (ends .high) u v (x .0) (x .1)) ∙ t)
+    link-tight i (reading r) k h u z t = absurd z
+
+    added-tight : (i : Item) → 1 ≤ worth (passes i) (map asAdded (c .fillings)) → itemSlack P G marks i ≡ P .nil
+    added-tight i h =
+        let (x, m, j, k) = worth-some (passes i) (map asAdded (c .fillings)) h in
+        let (f, n, e) = among-image asAdded (c .fillings) x m in
+        let known : Known f = all-among Known (c .fillings) f all-known n in
+        link-tight i (f .link) (f .must) (subst (λ (y : Load Link). 1 ≤ passes i (y .what)) e k) (known .0 .1) (known .0 .2)
+        (known .1 .tight (subst (λ (y : Load Link). 1 ≤ y .amount) e j))
+
+    module _ (idle : All (λ a. (T (usefulItem G (a .item)) → ⊥) → a .demand ≡ 0) (asks G)) (reads-linked : All (λ r. (2 ≤ length r) × T (linked (G .arcs) r)) rs) (d : Decomposed G Opens Closes (map asFull (c .fillings)) rs) where
+      ask-total : (a : Ask) → OneOf (asks G) a → total (a .item) (merge (d .cover)) ≡ owed rs a + worth (passes (a .item)) (map asAdded (c .fillings))
+      ask-total a m =
+          omega (arith, merge-total (a .item) (d .cover), d .totals (a .item), full-worth (passes (a .item)) (c .fillings), ap (worth (passes (a .item))) (c .musts), base-passes G rs g idle a m)
+
+      held : (r : List ℕ) → T (someHolds (paths (d .cover)) r) → T (someHolds (paths (merge (d .cover))) r)
+      held r h =
+          let (w, m, k) = held-by-some r (d .cover) h in
+          merge-holds r w (d .cover) m (all-among (λ w. 1 ≤ w .weight) (d .cover) w (d .weights) m) k
+
+      merged-paths : All (λ w. T (isPath G (w .path))) (merge (d .cover))
+      merged-paths = merge-all (λ p. T (isPath G p)) (d .cover) (all-weaken (λ w. T (isPath G (w .path))) (λ w. 1 ≤ w .weight → T (isPath G (w .path))) (d .cover) (λ w h k. h) (d .are-paths))
+
+      covers : IsCover (withReads G rs) (merge (d .cover))
+      covers =
+          record {
+            are-paths =
+                all-weaken (λ w. T (isPath G (w .path))) (λ w. T (isPath (withReads G rs) (w .path))) (merge (d .cover)) (λ w t. subst T (sym (path-with-reads G rs (w .path))) t) merged-paths;
+            weights = merge-weights (d .cover);
+            distinct = merge-distinct (d .cover);
+            demands-met = all-from (λ a. a .demand ≤ total (a .item) (merge (d .cover))) (asks G) (λ a m. omega (arith, ask-total a m));
+            reads-met = all-weaken (λ r. T (someHolds (paths (d .cover)) r)) (λ r. T (someHolds (paths (merge (d .cover))) r)) rs held (d .held);
+          }
+
+      at-ends : (q : List ℕ) → AtEnds Opens Closes q → EndsMeet P G marks q
+      unfolding Opens Closes
+      at-ends [] h = absurd h
+      at-ends (v ∷ q) h = h
+
+      price-met : price P G (merge (d .cover)) ≡ boundWith P rs G marks
+      price-met =
+          bound-met P L G g marks rs reads-linked (merge (d .cover)) merged-paths
+          (merge-all (EndsMeet P G marks) (d .cover)
+          (all-weaken (λ w. AtEnds Opens Closes (w .path)) (λ w. 1 ≤ w .weight → EndsMeet P G marks (w .path)) (d .cover) (λ w h k. at-ends (w .path) h) (d .at-ends)))
+          (all-from (λ a. (total (a .item) (merge (d .cover)) ≡ owed rs a) ⊎ (itemSlack P G marks (a .item) ≡ P .nil)) (asks G) meets)
+        where
+          meets : (a : Ask) → OneOf (asks G) a → (total (a .item) (merge (d .cover)) ≡ owed rs a) ⊎ (itemSlack P G marks (a .item) ≡ P .nil)
+          meets a m = pick (worth (passes (a .item)) (map asAdded (c .fillings))) refl
+            where
+              pick : (n : ℕ) → worth (passes (a .item)) (map asAdded (c .fillings)) ≡ n → (total (a .item) (merge (d .cover)) ≡ owed rs a) ⊎ (itemSlack P G marks (a .item) ≡ P .nil)
+              pick zero e = inl (omega (arith, ask-total a m))
+              pick (suc n) e = inr (added-tight (a .item) (omega arith))
+
+      few-paths : length (merge (d .cover)) ≤ length (G .vertices) + length (G .arcs) + startCount (G .vertices) + endCount (G .vertices) + length rs
+      few-paths = omega (arith, merge-length (d .cover), d .few, length-map (c .fillings) asFull, length-map (c .fillings) asMust, ap length (c .musts), base-short G rs)
+
+      few-copies : totalWeight (merge (d .cover)) ≤ sumOfDemands (asks G) + length rs
+      few-copies = omega (arith, merge-weight (d .cover), d .copies, c .opened, base-amount G rs)
+
+-- Theorem 6. Where a cover exists there are a cover and marks of equal price and bound, inside the limits: "a lowest-price cover and marks inside them always
+-- exist where a cover does".
+pub strong-duality : (P : Prices) → Ordered P → (G : Graph (P .El)) → WellFormed G → CostsHold P G → Coverable G → Best P G
+unfolding bound
+strong-duality P L G g costs coverable =
+    let rs = prepare (G .reads) in
+    let useful-reads = prepared-useful G g coverable in
+    let c = carry P L G g costs rs (all-weaken (λ r. OfGraph G (reading r) × Useful G (reading r)) (λ r. Useful G (reading r)) rs (λ r h. h .1) useful-reads) in
+    let d = decomposed P L G g costs rs c (all-weaken (λ r. OfGraph G (reading r) × Useful G (reading r)) (λ r. OfGraph G (reading r)) rs (λ r h. h .0) useful-reads) in
+    let idle = idle-asks G g coverable in
+    let fewer = prepared-fewer (G .reads) in
+    record {
+      cover = merge (d .cover);
+      marks = marks P L G g costs rs c;
+      is-cover = prepared-cover-is-cover G (merge (d .cover)) (covers P L G g costs rs c idle (prepared-linked G g) d);
+      slacks-hold = shown P L G g costs rs c;
+      price-is-bound = price-met P L G g costs rs c idle (prepared-linked G g) d;
+      few-paths = omega (arith, few-paths P L G g costs rs c idle (prepared-linked G g) d);
+      few-copies = omega (arith, few-copies P L G g costs rs c idle (prepared-linked G g) d);
+      marks-within = marks-within P L G g costs rs c;
+    }

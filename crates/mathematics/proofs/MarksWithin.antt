@@ -24,7 +24,7 @@ use Rattle.mathematics.proofs.Base.{base, base-of-graph, OfBase, among-
 use Rattle.mathematics.proofs.Wired.{live, Node, root-node, linkCost, edgeOf, loadEdge, edges}
 
 -- what is among the images is the image of one of the list
-among-image : {A B : Type 0} (f : A → B) (xs : List A) (y : B) → OneOf (map f xs) y → (x : A) × OneOf xs x × (y ≡ f x)
+pub among-image : {A B : Type 0} (f : A → B) (xs : List A) (y : B) → OneOf (map f xs) y → (x : A) × OneOf xs x × (y ≡ f x)
 among-image f [] y m = absurd m
 among-image f (x ∷ xs) y (inl e) = (x, inl refl, e)
 among-image f (x ∷ xs) y (inr m) = let (z, o, e) = among-image f xs y m in (z, inr o, e)
