@@ -1,24 +1,24 @@
 -- The links that a lowest-price cover may use, with what they must carry (MATHEMATICS.md section 5): an opening link for each useful start, a closing link
 -- for each useful end, and a link for each ask between useful vertices, which must carry its rest. Transport.antt gets them as edges and jobs.
-use Prim.Native.Nat.{ℕ, zero, suc, _+_, _*_, _-_, _/_, _≤_, _<_}
+use Prim.Native.Nat.{ℕ, suc, _+_, _*_, _≤_, _<_}
 use native.Mathlib.Omega.{arith}
 use native.Mathlib.Nat.{mul-zero, zero-mul, zero-add, add-zero}
 use mathlib.Core.Path.{_≡_, refl, sym, ap, ap₂, subst, _∙_}
 use mathlib.Core.List.{List, [], _∷_, _++_, map}
-use mathlib.Core.Bool.{Bool, true, false, cond, _&&_, _||_}
+use mathlib.Core.Bool.{Bool, true, false, cond, _&&_}
 use mathlib.Core.Logic.{_⊎_, inl, inr, _≢_}
 use lib.Dec.{T, eqb, eqb→eq, eqb-refl}
 use lib.ListN.{length, getD, length-append, length-map}
 use Rattle.mathematics.specs.Lists.{All, Distinct, lastOf}
-use Rattle.mathematics.specs.Graph.{Vertex, Arc, Graph, noVertex, isStart, isEnd, hasArc, WellFormed}
-use Rattle.mathematics.specs.Cover.{Item, vert, arc, sameItem, oneIf, countOf, Ask, vertexAsks, arcAsk, asks}
+use Rattle.mathematics.specs.Graph.{Vertex, Arc, Graph, noVertex, isStart, isEnd, WellFormed}
+use Rattle.mathematics.specs.Cover.{Item, vert, arc, sameItem, oneIf, Ask, vertexAsks, arcAsk, asks}
 use Rattle.mathematics.specs.Bound.{rest}
 use Rattle.mathematics.specs.Range.{OneOf, startCount, endCount, sumOfDemands}
-use Rattle.mathematics.specs.Reach.{fromStart, toEnd, useful}
-use Rattle.mathematics.proofs.Basics.{and-l, and-r, and-in, or-l, or-r, or-cases, all-among, all-from, all-append, all-map, all-weaken, among-map, among-left, among-right, is-true, is-false, test}
+use Rattle.mathematics.specs.Reach.{useful}
+use Rattle.mathematics.proofs.Basics.{and-l, and-r, and-in, all-among, all-append, all-map, all-weaken, among-map, among-left, among-right, is-true, is-false, test}
 use Rattle.mathematics.proofs.Reach.{joining-arc, start-below, end-below}
 use Rattle.mathematics.proofs.Items.{Known, asks-known}
-use Rattle.mathematics.proofs.Loads.{Load, sumOver, worth, one, passing, failing, worth-append, length-parts, all-passing, all-pass}
+use Rattle.mathematics.proofs.Loads.{unequal, Load, sumOver, worth, one, passing, worth-append, length-parts, all-passing, all-pass}
 use Rattle.mathematics.proofs.Links.{Link, opening, closing, inside, across, reading, passes, opens, OfGraph}
 
 -- the link of an item
@@ -38,7 +38,7 @@ place-among v k (x ∷ xs) l h = go (test (eqb v k)) (place-among v (suc k) xs)
     go : T (eqb v k) ⊎ (T (eqb v k) → ⊥) → (suc k ≤ v → v < suc k + length xs → OneOf (places (suc k) xs) v) → OneOf (places k (x ∷ xs)) v
     go (inl t) more = inl (eqb→eq v k t)
     go (inr t) more =
-        let n : v ≢ k = λ e. t (subst (λ (m : ℕ). T (eqb v m)) e (eqb-refl v)) in
+        let n : v ≢ k = unequal v k t in
         inr (more (omega arith) (omega arith))
 
 -- no more numbers pass a test than vertices have the flag that it looks for
@@ -351,7 +351,7 @@ module _ {E : Type 0} (G : Graph E) where
           (a : Ask) × OneOf (vertexAsks k (x ∷ xs)) a × (a .item ≡ vert v)
       go (inl t) more = (record { item = vert k; demand = x .demand }, inl refl, ap vert (eqb→eq k v t))
       go (inr t) more =
-          let n : k ≢ v = λ e. t (subst (λ (m : ℕ). T (eqb k m)) e (eqb-refl k)) in
+          let n : k ≢ v = unequal k v t in
           let (a, m, e) = more (omega arith) (omega arith) in
           (a, inr m, e)
 

@@ -3,23 +3,21 @@
 -- network of Wired.antt gives the marks and what each link carries; Decompose.antt reads the cover off it.
 use Prim.Native.Nat.{ℕ, zero, suc, _+_, _*_, _≤_, _<_}
 use native.Mathlib.Omega.{arith}
-use native.Mathlib.Nat.{le-trans}
 use mathlib.Core.Path.{_≡_, refl, sym, ap, subst, _∙_}
 use mathlib.Core.List.{List, [], _∷_, _++_, map}
-use mathlib.Core.Bool.{Bool, true, false, _&&_}
+use mathlib.Core.Bool.{Bool, true, false}
 use mathlib.Core.Logic.{_⊎_, inl, inr}
 use lib.Dec.{T}
 use lib.ListN.{length, length-map}
 use Rattle.mathematics.specs.Price.{Prices, Ordered, Le}
-use Rattle.mathematics.specs.Lists.{All, lastOf, someHolds}
-use Rattle.mathematics.specs.Graph.{Graph, isStart, isEnd, isPath, hasArc, linked, WellFormed}
+use Rattle.mathematics.specs.Lists.{All, someHolds}
+use Rattle.mathematics.specs.Graph.{Graph, isPath, linked, WellFormed}
 use Rattle.mathematics.specs.Cover.{Item, vert, arc, sameItem, oneIf, Ask, asks, Weighted, total, totalWeight, paths, IsCover, price}
 use Rattle.mathematics.specs.Prepare.{prepare}
-use Rattle.mathematics.specs.Bound.{readsThrough, rest, Marks, startSlack, endSlack, SlacksHold, boundWith, bound}
+use Rattle.mathematics.specs.Bound.{Marks, startSlack, endSlack, SlacksHold, boundWith, bound}
 use Rattle.mathematics.specs.Exists.{Coverable}
 use Rattle.mathematics.specs.Range.{OneOf, startCount, endCount, sumOfDemands, pathLimit, weightLimit, MarkWithin, CostsHold}
-use Rattle.mathematics.specs.Reach.{useful}
-use Rattle.mathematics.proofs.Basics.{all-among, all-from, all-map, all-unmap, all-weaken, is-true, test}
+use Rattle.mathematics.proofs.Basics.{all-among, all-from, all-map, all-unmap, all-weaken}
 use Rattle.mathematics.proofs.Merge.{merge, merge-total, merge-weight, merge-length, merge-weights, merge-all, merge-distinct, merge-holds}
 use Rattle.mathematics.proofs.Existence.{held-by-some}
 use Rattle.mathematics.proofs.WithReads.{withReads, path-with-reads}
@@ -28,12 +26,12 @@ use Rattle.mathematics.proofs.Telescope.{itemSlack}
 use Rattle.mathematics.proofs.Totals.{owed}
 use Rattle.mathematics.proofs.LowerBound.{EndsMeet, bound-met}
 use Rattle.mathematics.proofs.Network
-use Rattle.mathematics.proofs.Network.{Edge, edgesOf, slack, leaving, jobsTotal}
+use Rattle.mathematics.proofs.Network.{slack, leaving}
 use Rattle.mathematics.proofs.Transport.{Transport, transport}
 use Rattle.mathematics.proofs.Loads.{Load, worth, one, worth-append}
 use Rattle.mathematics.proofs.Links.{Link, opening, closing, inside, across, reading, inNode, outNode, passes, opens, OfGraph, Used, AtEnds}
 use Rattle.mathematics.proofs.Decompose
-use Rattle.mathematics.proofs.Decompose.{readLoad, readLoads, worth-some, Decomposed, decompose}
+use Rattle.mathematics.proofs.Decompose.{readLoads, worth-some, Decomposed, decompose}
 use Rattle.mathematics.proofs.Base.{same-item, usefulItem, base, base-short, base-opens, base-amount, base-passes, Useful, Unasked, OfBase, base-of-graph, has-opening, has-closing}
 use Rattle.mathematics.proofs.Wired.{live, Node, in-node, out-node, edgeOf, loadEdge, edges, jobs, has-edge, inside-edge, across-edge, wired, job-sources, job-targets}
 use Rattle.mathematics.proofs.Marked.{marksOf, side-among, open-slack, close-slack, inside-slack, across-slack, Spread, slacks-hold}

@@ -1,22 +1,19 @@
 -- What the links carry in the end: what they must and what a transport adds. It balances at each side of each vertex, as a transport does at each node,
 -- and what is added is worth something only where a link is tight.
-use Prim.Native.Nat.{ℕ, zero, suc, _+_, _*_, _≤_, _<_}
+use Prim.Native.Nat.{ℕ, _+_, _*_, _<_}
 use native.Mathlib.Omega.{arith}
 use native.Mathlib.Nat.{add-mul, mul-one, mul-zero}
 use mathlib.Core.Path.{_≡_, refl, sym, ap, ap₂, subst, fun-ext, _∙_}
 use mathlib.Core.List.{List, [], _∷_, _++_, map, nil≢cons, cons≢nil, head-eq-of-cons-eq, tail-eq-of-cons-eq}
-use mathlib.Core.Bool.{Bool, true, false, cond}
-use mathlib.Core.Logic.{_⊎_, inl, inr, _≢_}
+use mathlib.Core.Logic.{inl, inr}
 use lib.Dec.{T, eqb, eqb→eq, eqb-refl}
 use lib.ListN.{length}
 use Rattle.mathematics.specs.Price.{Prices}
-use Rattle.mathematics.specs.Lists.{All}
 use Rattle.mathematics.specs.Graph.{Graph}
 use Rattle.mathematics.specs.Cover.{oneIf}
-use Rattle.mathematics.specs.Range.{OneOf}
 use Rattle.mathematics.proofs.Basics.{is-true, is-false, test}
 use Rattle.mathematics.proofs.Network
-use Rattle.mathematics.proofs.Network.{Edge, Job, share, share-same, share-other, leaving, entering, edgesOf, jobsFrom, jobsTo, jobsTotal}
+use Rattle.mathematics.proofs.Network.{Edge, share, share-same, share-other, leaving, entering, edgesOf, jobsFrom, jobsTo, jobsTotal}
 use Rattle.mathematics.proofs.Loads.{Load, worth, one, worth-append}
 use Rattle.mathematics.proofs.Links.{Link, opening, closing, inside, across, reading, inNode, linkFrom, linkTo, opens}
 use Rattle.mathematics.proofs.Decompose.{readLoads, AllBalanced}

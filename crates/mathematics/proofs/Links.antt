@@ -1,16 +1,15 @@
 -- The network of a graph as links between nodes, and what a walk from the root to the finish is: a path from a start to an end. Each vertex v has two
 -- nodes, 2v + 1 (its in side) and 2v + 2 (its out side); the root is 0 and the finish 2n + 1. Sweep.antt makes such walks, Decompose.antt uses them.
-use Prim.Native.Nat.{ℕ, zero, suc, _+_, _*_, _≤_, _<_}
+use Prim.Native.Nat.{ℕ, _+_, _*_, _≤_, _<_}
 use native.Mathlib.Omega.{arith}
-use mathlib.Core.Path.{_≡_, refl, sym, ap, ap₂, subst, _∙_}
-use mathlib.Core.List.{List, [], _∷_, _++_, append-assoc, append-nil}
-use mathlib.Core.Bool.{Bool, true, false}
-use mathlib.Core.Logic.{_⊎_, inl, inr}
+use mathlib.Core.Path.{_≡_, refl, sym, ap, subst, _∙_}
+use mathlib.Core.List.{List, [], _∷_, _++_, append-assoc}
+use mathlib.Core.Logic.{inl, inr}
 use lib.Dec.{T}
 use lib.ListN.{length, getD}
 use Rattle.mathematics.specs.Lists.{All, lastOf}
-use Rattle.mathematics.specs.Graph.{Arc, Graph, isStart, isEnd, isPath, hasArc, linked, Rises}
-use Rattle.mathematics.specs.Cover.{Item, vert, arc, sameItem, trail, oneIf, countOf, through}
+use Rattle.mathematics.specs.Graph.{Graph, isStart, isEnd, isPath, hasArc, linked, Rises}
+use Rattle.mathematics.specs.Cover.{Item, vert, arc, trail, countOf, through}
 use Rattle.mathematics.specs.Range.{OneOf}
 use Rattle.mathematics.proofs.Basics.{and-in}
 use Rattle.mathematics.proofs.Parts.{Within}

@@ -1,11 +1,9 @@
 -- Where a cover exists, what asks for something lies between useful vertices: an item that does not is asked nothing, and a prepared read begins and ends
 -- at useful vertices.
-use Prim.Native.Nat.{ℕ, zero, suc, _+_, _≤_, _<_}
+use Prim.Native.Nat.{ℕ, zero, suc, _≤_}
 use native.Mathlib.Omega.{arith}
 use mathlib.Core.Path.{_≡_, refl, sym, subst}
 use mathlib.Core.List.{List, [], _∷_}
-use mathlib.Core.Bool.{Bool, true, false, _&&_}
-use mathlib.Core.Logic.{_⊎_, inl, inr}
 use lib.Dec.{T}
 use lib.ListN.{length, getD}
 use Rattle.mathematics.specs.Lists.{All, lastOf}
@@ -19,7 +17,7 @@ use Rattle.mathematics.proofs.Basics.{and-in, all-among, all-from}
 use Rattle.mathematics.proofs.Reach.{arc-rises, linked-first, from-start-along, to-end-along, read-on-path, vertex-on-path, arc-ends-useful}
 use Rattle.mathematics.proofs.Items.{Known, asks-known}
 use Rattle.mathematics.proofs.Prepared.{prepared-linked, prepared-ends, EndsAs}
-use Rattle.mathematics.proofs.Links.{Link, reading, OfGraph}
+use Rattle.mathematics.proofs.Links.{reading, OfGraph}
 use Rattle.mathematics.proofs.Base.{usefulItem, Useful}
 
 module _ {E : Type 0} (G : Graph E) (g : WellFormed G) (c : Coverable G) where

@@ -1,15 +1,14 @@
 -- Marks for the vertices from marks for the nodes of the network (MATHEMATICS.md section 5): a useful vertex takes those of its two sides; one that no
 -- start reaches takes the greatest, one that a start reaches and that reaches no end the least. Then no slack is below nothing.
-use Prim.Native.Nat.{ℕ, zero, suc, _+_, _≤_, _<_}
+use Prim.Native.Nat.{ℕ, suc, _+_}
 use native.Mathlib.Omega.{arith}
 use mathlib.Core.Path.{_≡_, refl, sym, ap, ap₂, subst, subst₂, _∙_}
 use mathlib.Core.List.{List, [], _∷_}
 use mathlib.Core.Bool.{Bool, true, false, cond, _&&_}
 use mathlib.Core.Logic.{_⊎_, inl, inr}
 use lib.Dec.{T}
-use lib.ListN.{length, getD}
+use lib.ListN.{getD}
 use Rattle.mathematics.specs.Price.{Prices, Ordered, Le, sub}
-use Rattle.mathematics.specs.Lists.{All}
 use Rattle.mathematics.specs.Graph.{Vertex, Arc, Graph, noVertex, isStart, isEnd, hasArc, WellFormed}
 use Rattle.mathematics.specs.Cover.{costOf}
 use Rattle.mathematics.specs.Bound.{Marks, startSlack, endSlack, vertexSlack, arcSlack, vertexSlacksHold, arcSlackHolds, VertexSlacksHold, SlacksHold}
@@ -20,8 +19,7 @@ use Rattle.mathematics.proofs.Algebra
 use Rattle.mathematics.proofs.Reach.{arc-joins, from-start-arc, to-end-arc, start-from-start, end-to-end}
 use Rattle.mathematics.proofs.Items.{cost-own, joins-own}
 use Rattle.mathematics.proofs.Network.{slack}
-use Rattle.mathematics.proofs.Links.{Link, opening, closing, inside, across, inNode, outNode, OfGraph}
-use Rattle.mathematics.proofs.Base.{Useful}
+use Rattle.mathematics.proofs.Links.{opening, closing, inside, across, inNode, outNode}
 use Rattle.mathematics.proofs.Wired.{Node, root-node, in-node, out-node, edgeOf}
 
 -- the mark of a side: its node's where the vertex is useful, else the least or the greatest
@@ -105,13 +103,6 @@ module _ (P : Prices) (L : Ordered P) (G : Graph (P .El)) (g : WellFormed G) (p 
   module _ (k : Spread) where
     low-high : Le P low high
     low-high = L .le-trans low (p 0) high (k .low-least 0 (root-node G g)) (k .high-most 0 (root-node G g))
-
-    low-side : (own : P .El) → Le P low own → (v : ℕ) → Le P low (sideMark G low high own v)
-    low-side own h v =
-        elim (side-cases G low high own v) [
-          | inl c ↦ subst (Le P low) (sym (c .1)) h
-          | inr d ↦ elim d [ inl c ↦ subst (Le P low) (sym (c .2)) (L .le-refl low) | inr c ↦ subst (Le P low) (sym (c .1)) low-high ]
-        ]
 
     start-holds : (v : ℕ) → T (isStart G v) → Le P (P .nil) (startSlack P G m v)
     start-holds v t = go (side-cases G low high (p (inNode v)) v)

@@ -1,24 +1,24 @@
 -- Marks stay small: a node's mark is the opening price or nothing with arc costs added or taken away, one for each step of its way from the root; and
 -- among finitely many nodes one has the greatest mark and one the least.
-use Prim.Native.Nat.{ℕ, zero, suc, _+_, _*_, _≤_, _<_}
+use Prim.Native.Nat.{ℕ, zero, suc, _≤_, _<_}
 use native.Mathlib.Omega.{arith}
 use mathlib.Core.Path.{_≡_, refl, sym, ap, ap₂, subst, _∙_}
 use mathlib.Core.List.{List, [], _∷_, _++_, map}
-use mathlib.Core.Bool.{Bool, true, false, cond}
+use mathlib.Core.Bool.{true, false, cond}
 use mathlib.Core.Logic.{_⊎_, inl, inr, _≢_}
-use lib.Dec.{T, eqb, eqb→eq, eqb-refl}
+use lib.Dec.{T, eqb, eqb→eq}
 use lib.ListN.{length, length-append}
 use Rattle.mathematics.specs.Price.{Prices, Ordered, Le, sub}
 use Rattle.mathematics.specs.Lists.{All}
 use Rattle.mathematics.specs.Graph.{Arc, Graph, WellFormed}
 use Rattle.mathematics.specs.Cover.{costOf}
 use Rattle.mathematics.specs.Range.{OneOf, Step, climb, MarkWithin}
-use Rattle.mathematics.proofs.Basics.{and-in, all-among, all-append, all-weaken, among-map, test}
+use Rattle.mathematics.proofs.Basics.{all-among, all-append, all-weaken, among-map, test}
 use Rattle.mathematics.proofs.Algebra
 use Rattle.mathematics.proofs.Reach.{joining-arc}
 use Rattle.mathematics.proofs.Items.{cost-own, joins-own}
 use Rattle.mathematics.proofs.Network.{Edge, Way, here, forward, backward}
-use Rattle.mathematics.proofs.Loads.{Load, passing, all-passing}
+use Rattle.mathematics.proofs.Loads.{unequal, passing, all-passing}
 use Rattle.mathematics.proofs.Links.{Link, opening, closing, inside, across, reading, inNode, linkFrom, linkTo, OfGraph}
 use Rattle.mathematics.proofs.Base.{base, base-of-graph, OfBase, among-passing}
 use Rattle.mathematics.proofs.Wired.{live, Node, root-node, linkCost, edgeOf, loadEdge, edges}
@@ -117,7 +117,7 @@ below-has (suc k) u h = elim (test (eqb u k)) [ inl t ↦ inl (eqb→eq u k t) |
   where
     other : (T (eqb u k) → ⊥) → u < k
     other t =
-        let n : u ≢ k = λ e. t (subst (λ (m : ℕ). T (eqb u m)) e (eqb-refl u)) in
+        let n : u ≢ k = unequal u k t in
         omega arith
 
 below-all : (k : ℕ) → All (λ u. u < k) (below k)

@@ -3,17 +3,17 @@
 -- has no more pieces than there were, so there are no more walks than links; and a pairing keeps the worth of the flow, whatever the links are worth.
 use Prim.Native.Nat.{ℕ, zero, suc, pred, _+_, _*_, _-_, _≤_, _<_}
 use mathlib.Core.Path.{_≡_, refl, sym, ap, subst, subst₂, _∙_}
-use mathlib.Core.List.{List, [], _∷_, _++_, map}
-use mathlib.Core.Bool.{Bool, true, false, not, cond}
+use mathlib.Core.List.{List, [], _∷_, _++_}
+use mathlib.Core.Bool.{Bool}
 use mathlib.Core.Logic.{_⊎_, inl, inr, _≢_}
-use native.Mathlib.Nat.{mul-add, add-mul, add-zero, le-refl, le-trans, lt-suc-self}
+use native.Mathlib.Nat.{eq-zero-or-pos, mul-add, add-mul, add-zero, le-refl, le-trans, lt-suc-self}
 use native.Mathlib.Omega.{arith}
 use lib.Dec.{T, eqb, eqb→eq, eqb-refl, leb, leb→le, nleb→lt, ltb→lt, not-T}
 use lib.ListN.{length, length-append}
 use Rattle.mathematics.specs.Lists.{All}
 use Rattle.mathematics.specs.Cover.{oneIf}
 use Rattle.mathematics.proofs.Basics.{all-append, all-from, all-weaken, test, is-true, is-false}
-use Rattle.mathematics.proofs.Loads.{Load, sumOver, worth, one, none, passing, failing, sumOver-append, worth-append, worth-same, worth-none, worth-nothing, worth-empty, worth-parts, length-parts, all-passing, all-failing, relabel, worth-relabel, length-relabel, all-relabel, isPresent, worth-present}
+use Rattle.mathematics.proofs.Loads.{unequal, Load, sumOver, worth, one, none, passing, failing, sumOver-append, worth-append, worth-same, worth-none, worth-nothing, worth-empty, worth-parts, length-parts, all-passing, all-failing, relabel, worth-relabel, length-relabel, all-relabel, isPresent, worth-present}
 
 -- a walk from one node to another, along links
 pub record Walk (L : Type 0) : Type 0 where
@@ -110,9 +110,6 @@ module _ {L : Type 0} where
 
   parts : (x : ℕ) (g : Walk L → ℕ) (ps : List (Load (Walk L))) → worth g ps ≡ worth g (entering x ps) + (worth g (leaving x ps) + worth g (others x ps))
   parts x g ps = worth-parts (endsAt x) g ps ∙ ap (λ (n : ℕ). worth g (entering x ps) + n) (worth-parts (beginsAt x) g (failing (endsAt x) ps))
-
-unequal : (m n : ℕ) → (T (eqb m n) → ⊥) → m ≢ n
-unequal m n h e = h (subst (λ (k : ℕ). T (eqb m k)) e (eqb-refl m))
 
 if-equal : {m n : ℕ} → m ≡ n → oneIf (eqb m n) ≡ 1
 if-equal {m} {n} e = ap oneIf (is-true (eqb m n) (subst (λ (k : ℕ). T (eqb m k)) e (eqb-refl m)))
@@ -298,14 +295,10 @@ module _ {L : Type 0} (start finish : L → ℕ) (Good : L → Type 0) where
         balanced = λ x l m. worth-relabel single (enters x) loads ∙ (balance x l m ∙ sym (worth-relabel single (leaves x) loads));
       }
     where
-      zero-or-more : (n : ℕ) → (n ≡ 0) ⊎ (0 < n)
-      zero-or-more zero = inl refl
-      zero-or-more (suc n) = inr (omega arith)
-
       one-of : (l : Load L) → Rising M l × T (isPresent l) → Swept M 0 (single (l .what))
       one-of l ((up, high, good), t) =
           record {
-            begins = zero-or-more (start (l .what));
+            begins = eq-zero-or-pos (start (l .what));
             ends = omega arith;
             rises = up;
             within = high;

@@ -1,27 +1,27 @@
 -- The links of a graph as a network for Transport.antt (MATHEMATICS.md section 5): its nodes are the root and the two sides of each useful vertex, every
 -- node is reached from the root and reaches it, and there is a job for each rest and each read.
-use Prim.Native.Nat.{ℕ, zero, suc, _+_, _*_, _-_, _/_, _≤_, _<_}
+use Prim.Native.Nat.{ℕ, _-_, _/_, _<_}
 use native.Mathlib.Omega.{arith}
-use mathlib.Core.Path.{_≡_, refl, sym, ap, ap₂, subst, subst₂, _∙_}
+use mathlib.Core.Path.{_≡_, sym, subst}
 use mathlib.Core.List.{List, [], _∷_, _++_, map}
-use mathlib.Core.Bool.{Bool, true, false, cond, _&&_, _||_}
+use mathlib.Core.Bool.{Bool, _||_}
 use mathlib.Core.Logic.{_⊎_, inl, inr, _≢_}
 use lib.Dec.{T, eqb, eqb→eq, eqb-refl}
 use lib.ListN.{length, getD}
 use Rattle.mathematics.specs.Price.{Prices, Ordered, Le}
 use Rattle.mathematics.specs.Lists.{All, lastOf}
-use Rattle.mathematics.specs.Graph.{Arc, Graph, isStart, isEnd, hasArc, linked, joins, WellFormed}
-use Rattle.mathematics.specs.Cover.{Item, vert, arc, costOf}
+use Rattle.mathematics.specs.Graph.{Graph, isEnd, hasArc, linked, WellFormed}
+use Rattle.mathematics.specs.Cover.{vert, arc, costOf}
 use Rattle.mathematics.specs.Range.{OneOf, CostsHold}
 use Rattle.mathematics.specs.Reach.{fromStart, toEnd, useful}
-use Rattle.mathematics.proofs.Basics.{and-l, and-r, and-in, or-l, or-r, or-cases, all-among, all-append, all-map, all-weaken, among-map, test}
-use Rattle.mathematics.proofs.Reach.{LeadsTo, LeadsOn, linked-first, linked-rest, joining-arc, arc-rises, from-start-path, to-end-path, from-start-below, useful-along, start-from-start, end-to-end}
-use Rattle.mathematics.proofs.Items.{Known, cost-own, joins-ends}
+use Rattle.mathematics.proofs.Basics.{and-l, and-r, and-in, or-r, or-cases, all-among, all-append, all-map, all-weaken, among-map, test}
+use Rattle.mathematics.proofs.Reach.{linked-first, linked-rest, joining-arc, from-start-path, to-end-path, from-start-below, useful-along, start-from-start, end-to-end}
+use Rattle.mathematics.proofs.Items.{cost-own}
 use Rattle.mathematics.proofs.Network.{Edge, Job, IsNode, IsNetwork, Walk, stop, step}
-use Rattle.mathematics.proofs.Loads.{Load}
+use Rattle.mathematics.proofs.Loads.{unequal, Load}
 use Rattle.mathematics.proofs.Links.{Link, opening, closing, inside, across, reading, inNode, outNode, linkFrom, linkTo, OfGraph}
 use Rattle.mathematics.proofs.Decompose.{readLoad, readLoads}
-use Rattle.mathematics.proofs.Base.{linkOf, base, usefulItem, Useful, OfBase, base-of-graph, has-opening, has-closing, has-link}
+use Rattle.mathematics.proofs.Base.{base, Useful, OfBase, base-of-graph, has-opening, has-closing, has-link}
 
 -- the root, and the sides of the useful vertices
 unfoldable pub live : {E : Type 0} → Graph E → ℕ → Bool
@@ -62,12 +62,12 @@ module _ {E : Type 0} (G : Graph E) (g : WellFormed G) where
 
       parity : (T (eqb u 0) → ⊥) → (u ≡ inNode ((u - 1) / 2)) ⊎ (u ≡ outNode ((u - 1) / 2))
       parity z =
-          let n : u ≢ 0 = λ e. z (subst (λ (m : ℕ). T (eqb m 0)) (sym e) tt) in
+          let n : u ≢ 0 = unequal u 0 z in
           elim (test (eqb u (inNode ((u - 1) / 2)))) [ inl y ↦ inl (eqb→eq u (inNode ((u - 1) / 2)) y) | inr y ↦ inr (other n y) ]
         where
           other : u ≢ 0 → (T (eqb u (inNode ((u - 1) / 2))) → ⊥) → u ≡ outNode ((u - 1) / 2)
           other n y =
-              let m : u ≢ inNode ((u - 1) / 2) = λ e. y (subst (λ (k : ℕ). T (eqb u k)) e (eqb-refl u)) in
+              let m : u ≢ inNode ((u - 1) / 2) = unequal u (inNode ((u - 1) / 2)) y in
               omega arith
 
   pub link-nodes : (l : Link) → Useful G l → Node G (linkFrom l) × Node G (linkTo 0 l)
