@@ -133,7 +133,8 @@ vertex-no-arc : {E : Type 0} (k : ℕ) (arcs : List (Arc E)) → All (λ j. vert
 vertex-no-arc k [] = tt
 vertex-no-arc k (a ∷ arcs) = (λ e. let z : _≡_ {A = ℕ} 0 1 = cc in omega arith, vertex-no-arc k arcs)
 
-vertices-no-arcs : {E : Type 0} (k : ℕ) (xs : List Vertex) (arcs : List (Arc E)) → All (λ i. All (λ j. i ≢ j) (itemsOf (map arcAsk arcs))) (itemsOf (vertexAsks k xs))
+vertices-no-arcs : {E : Type 0} (k : ℕ) (xs : List Vertex) (arcs : List (Arc E)) →
+    All (λ i. All (λ j. i ≢ j) (itemsOf (map arcAsk arcs))) (itemsOf (vertexAsks k xs))
 vertices-no-arcs k [] arcs = tt
 vertices-no-arcs k (x ∷ xs) arcs = (vertex-no-arc k arcs, vertices-no-arcs (suc k) xs arcs)
 
@@ -144,7 +145,8 @@ items-append (x ∷ xs) ys = ap (λ is. x .item ∷ is) (items-append xs ys)
 asks-distinct : {E : Type 0} (G : Graph E) → WellFormed G → Distinct (itemsOf (asks G))
 asks-distinct G g =
     rw (items-append (vertexAsks 0 (G .vertices)) (map arcAsk (G .arcs)))
-    (distinct-append (itemsOf (vertexAsks 0 (G .vertices))) (itemsOf (map arcAsk (G .arcs))) (vertices-distinct 0 (G .vertices)) (arcs-distinct (G .arcs) (g .once))
+    (distinct-append (itemsOf (vertexAsks 0 (G .vertices))) (itemsOf (map arcAsk (G .arcs))) (vertices-distinct 0 (G .vertices))
+    (arcs-distinct (G .arcs) (g .once))
     (vertices-no-arcs 0 (G .vertices) (G .arcs)))
 
 -- c of an ask, times whether it asks for i
@@ -229,8 +231,10 @@ module _ {E : Type 0} (G : Graph E) where
         asks-length,
         start-count (G .vertices),
         end-count (G .vertices),
-        few-places (λ x. x .start) usefulStart 0 (G .vertices) (λ j t. subst (λ (n : ℕ). T (isStart G n)) (zero-add j) (and-l (isStart G (0 + j)) (useful G (0 + j)) t)),
-        few-places (λ x. x .end) usefulEnd 0 (G .vertices) (λ j t. subst (λ (n : ℕ). T (isEnd G n)) (zero-add j) (and-l (isEnd G (0 + j)) (useful G (0 + j)) t)),
+        few-places (λ x. x .start) usefulStart 0 (G .vertices)
+            (λ j t. subst (λ (n : ℕ). T (isStart G n)) (zero-add j) (and-l (isStart G (0 + j)) (useful G (0 + j)) t)),
+        few-places (λ x. x .end) usefulEnd 0 (G .vertices)
+            (λ j t. subst (λ (n : ℕ). T (isEnd G n)) (zero-add j) (and-l (isEnd G (0 + j)) (useful G (0 + j)) t)),
       )
     where
       vertices-length : (k : ℕ) (xs : List Vertex) → length (vertexAsks k xs) ≡ length xs
@@ -238,11 +242,18 @@ module _ {E : Type 0} (G : Graph E) where
       vertices-length k (x ∷ xs) = ap suc (vertices-length (suc k) xs)
 
       asks-length : length (asks G) ≡ length (G .vertices) + length (G .arcs)
-      asks-length = omega (arith, length-append (vertexAsks 0 (G .vertices)) (map arcAsk (G .arcs)), vertices-length 0 (G .vertices), length-map (G .arcs) (arcAsk {E = E}))
+      asks-length =
+          omega (
+            arith,
+            length-append (vertexAsks 0 (G .vertices)) (map arcAsk (G .arcs)),
+            vertices-length 0 (G .vertices),
+            length-map (G .arcs) (arcAsk {E = E}),
+          )
 
   -- ---- what it is worth
 
-  ask-worth : (rs : List (List ℕ)) (g : Link → ℕ) (bs : List Ask) → worth g (map (askLoad rs) bs) ≡ sumOver (λ b. rest rs (b .item) (b .demand) * g (linkOf (b .item))) bs
+  ask-worth : (rs : List (List ℕ)) (g : Link → ℕ) (bs : List Ask) →
+      worth g (map (askLoad rs) bs) ≡ sumOver (λ b. rest rs (b .item) (b .demand) * g (linkOf (b .item))) bs
   ask-worth rs g [] = refl
   ask-worth rs g (b ∷ bs) = ap (λ (n : ℕ). rest rs (b .item) (b .demand) * g (linkOf (b .item)) + n) (ask-worth rs g bs)
 
@@ -250,7 +261,8 @@ module _ {E : Type 0} (G : Graph E) where
   empty-worth mk g [] = refl
   empty-worth mk g (v ∷ vs) = rw zero-mul (omega (arith, empty-worth mk g vs))
 
-  base-worth : (rs : List (List ℕ)) (g : Link → ℕ) → worth g (base rs) ≡ sumOver (λ b. rest rs (b .item) (b .demand) * g (linkOf (b .item))) (passing usefulAsk (asks G))
+  base-worth : (rs : List (List ℕ)) (g : Link → ℕ) →
+      worth g (base rs) ≡ sumOver (λ b. rest rs (b .item) (b .demand) * g (linkOf (b .item))) (passing usefulAsk (asks G))
   unfolding base
   base-worth rs g =
       omega (
@@ -301,7 +313,9 @@ module _ {E : Type 0} (G : Graph E) where
       on-link i (vert v) = add-zero (oneIf (sameItem i (vert v)))
       on-link i (arc u v) = add-zero (oneIf (sameItem i (arc u v)))
 
-      same-sum : (bs : List Ask) → sumOver (λ b. rest rs (b .item) (b .demand) * passes (a .item) (linkOf (b .item))) bs ≡ sumOver (counting (λ b. rest rs (b .item) (b .demand)) (a .item)) bs
+      same-sum : (bs : List Ask) →
+          sumOver (λ b. rest rs (b .item) (b .demand) * passes (a .item) (linkOf (b .item))) bs ≡
+          sumOver (counting (λ b. rest rs (b .item) (b .demand)) (a .item)) bs
       same-sum [] = refl
       same-sum (b ∷ bs) = ap₂ (λ (x y : ℕ). rest rs (b .item) (b .demand) * x + y) (on-link (a .item) (b .item)) (same-sum bs)
 
@@ -336,7 +350,8 @@ module _ {E : Type 0} (G : Graph E) where
       (all-weaken (λ v. T (usefulEnd v)) (λ v. T (isEnd G v) × T (useful G v) × (0 ≡ 0)) (passing usefulEnd (places 0 (G .vertices)))
       (λ v h. (and-l (isEnd G v) (useful G v) h, and-r (isEnd G v) (useful G v) h, refl)) (all-pass usefulEnd (places 0 (G .vertices)))))
       (all-map OfBase (askLoad rs) (passing usefulAsk (asks G))
-      (all-weaken (λ a. Known G (a .item) × T (usefulAsk a)) (λ a. OfBase (askLoad rs a)) (passing usefulAsk (asks G)) (λ a h. fine (a .item) (rest rs (a .item) (a .demand)) (h .0) (h .1))
+      (all-weaken (λ a. Known G (a .item) × T (usefulAsk a)) (λ a. OfBase (askLoad rs a)) (passing usefulAsk (asks G))
+      (λ a h. fine (a .item) (rest rs (a .item) (a .demand)) (h .0) (h .1))
       (all-passing usefulAsk (λ a. Known G (a .item)) (asks G) (asks-known G)))))
     where
       fine : (i : Item) (k : ℕ) → Known G i → T (usefulItem i) → OfGraph G (linkOf i) × Useful (linkOf i) × Unasked (linkOf i) k
@@ -370,7 +385,8 @@ module _ {E : Type 0} (G : Graph E) where
     0,
     among-left (emptyOpening v) openLoads (closeLoads ++ askLoads rs)
         (among-map emptyOpening v (passing usefulStart (places 0 (G .vertices)))
-        (among-passing usefulStart (places 0 (G .vertices)) v (place-among v 0 (G .vertices) (omega arith) (omega (arith, start-below G v s))) (and-in (isStart G v) (useful G v) s u))),
+        (among-passing usefulStart (places 0 (G .vertices)) v (place-among v 0 (G .vertices) (omega arith) (omega (arith, start-below G v s)))
+        (and-in (isStart G v) (useful G v) s u))),
   )
 
   pub has-closing : (rs : List (List ℕ)) (v : ℕ) → T (isEnd G v) → T (useful G v) → (k : ℕ) × OneOf (base rs) (record { amount = k; what = closing v })
@@ -380,7 +396,8 @@ module _ {E : Type 0} (G : Graph E) where
     among-right (emptyClosing v) openLoads (closeLoads ++ askLoads rs)
         (among-left (emptyClosing v) closeLoads (askLoads rs)
         (among-map emptyClosing v (passing usefulEnd (places 0 (G .vertices)))
-        (among-passing usefulEnd (places 0 (G .vertices)) v (place-among v 0 (G .vertices) (omega arith) (omega (arith, end-below G v s))) (and-in (isEnd G v) (useful G v) s u)))),
+        (among-passing usefulEnd (places 0 (G .vertices)) v (place-among v 0 (G .vertices) (omega arith) (omega (arith, end-below G v s)))
+        (and-in (isEnd G v) (useful G v) s u)))),
   )
 
   pub has-link : (rs : List (List ℕ)) (i : Item) → Known G i → T (usefulItem i) → (k : ℕ) × OneOf (base rs) (record { amount = k; what = linkOf i })
@@ -390,5 +407,8 @@ module _ {E : Type 0} (G : Graph E) where
       let l : OneOf (openLoads ++ (closeLoads ++ askLoads rs)) (askLoad rs a) =
       among-right (askLoad rs a) openLoads (closeLoads ++ askLoads rs)
       (among-right (askLoad rs a) closeLoads (askLoads rs)
-      (among-map (askLoad rs) a (passing usefulAsk (asks G)) (among-passing usefulAsk (asks G) a m (subst (λ (j : Item). T (usefulItem j)) (sym e) u)))) in
-      (rest rs (a .item) (a .demand), subst (λ (j : Item). OneOf (openLoads ++ (closeLoads ++ askLoads rs)) (record { amount = rest rs (a .item) (a .demand); what = linkOf j })) e l)
+      (among-map (askLoad rs) a (passing usefulAsk (asks G)) (among-passing usefulAsk (asks G) a m (subst (λ (j : Item). T (usefulItem j)) (sym e) u)))) in (
+        rest rs (a .item) (a .demand),
+        subst (λ (j : Item). OneOf (openLoads ++ (closeLoads ++ askLoads rs))
+            (record { amount = rest rs (a .item) (a .demand); what = linkOf j })) e l,
+      )

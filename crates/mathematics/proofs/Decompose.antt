@@ -129,12 +129,16 @@ module _ {E : Type 0} (G : Graph E) (Opens Closes : ℕ → Type 0) where
         (all-weaken (λ r. OfGraph G (reading r)) (λ r. OfGraph G (reading r) × (1 ≤ 1 → Unit {0})) rs (λ r h. (h, λ u. tt)) t))
 
     abbrev Walks : Type 0
-    Walks = Split linkFrom (linkTo (inNode (length (G .vertices)))) (λ l. OfGraph G l × Used Opens Closes l) (inNode (length (G .vertices))) (loads ++ readLoads rs)
+    Walks =
+        Split linkFrom (linkTo (inNode (length (G .vertices)))) (λ l. OfGraph G l × Used Opens Closes l) (inNode (length (G .vertices))) (loads ++ readLoads rs)
 
     walks-of : All Sound (loads ++ readLoads rs) → AllBalanced G (loads ++ readLoads rs) → Walks
     walks-of s b =
-        split linkFrom (linkTo (inNode (length (G .vertices)))) (λ l. OfGraph G l × Used Opens Closes l) (inNode (length (G .vertices))) (omega arith) (loads ++ readLoads rs)
-        (all-weaken Sound (Rising linkFrom (linkTo (inNode (length (G .vertices)))) (λ l. OfGraph G l × Used Opens Closes l) (inNode (length (G .vertices)))) (loads ++ readLoads rs)
+        split linkFrom (linkTo (inNode (length (G .vertices)))) (λ l. OfGraph G l × Used Opens Closes l) (inNode (length (G .vertices))) (omega arith)
+        (loads ++ readLoads rs)
+        (all-weaken Sound
+        (Rising linkFrom (linkTo (inNode (length (G .vertices)))) (λ l. OfGraph G l × Used Opens Closes l) (inNode (length (G .vertices))))
+        (loads ++ readLoads rs)
         (λ l h. let r = link-rises G Opens Closes rises (l .what) (h .0) in (r .0, r .1, λ k. (h .0, h .1 k))) s) b
 
     -- each read is on one of the walks
@@ -156,9 +160,13 @@ module _ {E : Type 0} (G : Graph E) (Opens Closes : ℕ → Type 0) where
     from-walks w whole =
         record {
           cover = map asWeighted (w .walks);
-          are-paths = all-map (λ u. T (isPath G (u .path))) asWeighted (w .walks) (all-weaken Whole (λ x. T (isPath G (pathOf (x .what)))) (w .walks) (λ x h. h .is-path) whole);
+          are-paths =
+              all-map (λ u. T (isPath G (u .path))) asWeighted (w .walks)
+              (all-weaken Whole (λ x. T (isPath G (pathOf (x .what)))) (w .walks) (λ x h. h .is-path) whole);
           weights = all-map (λ u. 1 ≤ u .weight) asWeighted (w .walks) (w .amounts);
-          at-ends = all-map (λ u. AtEnds Opens Closes (u .path)) asWeighted (w .walks) (all-weaken Whole (λ x. AtEnds Opens Closes (pathOf (x .what))) (w .walks) (λ x h. h .at-ends) whole);
+          at-ends =
+              all-map (λ u. AtEnds Opens Closes (u .path)) asWeighted (w .walks)
+              (all-weaken Whole (λ x. AtEnds Opens Closes (pathOf (x .what))) (w .walks) (λ x h. h .at-ends) whole);
           totals = λ i.
               total-worth i (w .walks) ∙
               (sym (worth-same Whole (sumOver (passes i)) (λ ls. through i (pathOf ls)) (w .walks) whole (λ x h. h .items i)) ∙
@@ -166,7 +174,14 @@ module _ {E : Type 0} (G : Graph E) (Opens Closes : ℕ → Type 0) where
           held = all-from _ rs (walk-reads w);
           few = omega (arith, w .few, length-map (w .walks) asWeighted, length-append loads (readLoads rs), length-map rs readLoad);
           copies =
-              omega (arith, weight-worth (w .walks), worth-same Whole (sumOver opens) one (w .walks) whole (λ x h. h .opened), w .same opens, worth-append opens loads (readLoads rs), opens-reads rs);
+              omega (
+                arith,
+                weight-worth (w .walks),
+                worth-same Whole (sumOver opens) one (w .walks) whole (λ x h. h .opened),
+                w .same opens,
+                worth-append opens loads (readLoads rs),
+                opens-reads rs,
+              );
         }
       where
         Whole : Load (List Link) → Type 0

@@ -101,14 +101,18 @@ module _ (P : Prices) (L : Ordered P) (G : Graph (P .El)) (g : WellFormed G) (co
               reads-amount rs,
             );
         root-nil = t .root-mark;
-        small = λ u n. let (k, few, w) = t .ways-to u n in within-equal P G k (2 * length (G .vertices)) (t .marks u) (t .marks u) (omega arith) refl (way-within P L G g (t .marks) (t .root-mark) rs w);
+        small = λ u n.
+            let (k, few, w) = t .ways-to u n in
+            within-equal P G k (2 * length (G .vertices)) (t .marks u) (t .marks u) (omega arith) refl
+            (way-within P L G g (t .marks) (t .root-mark) rs w);
       }
 
   -- the transport on the network of the links
   carry : All (λ r. Useful G (reading r)) rs → Carried P G rs
   carry h =
       from-transport
-      (transport P L (live G) (inNode (length (G .vertices))) (edges P G rs) (wired P G L g rs costs) (jobs P G rs) (job-sources P G L g rs h) (job-targets P G L g rs h))
+      (transport P L (live G) (inNode (length (G .vertices))) (edges P G rs) (wired P G L g rs costs) (jobs P G rs) (job-sources P G L g rs h)
+      (job-targets P G L g rs h))
 
   module _ (c : Carried P G rs) where
     abbrev p : ℕ → P .El
@@ -119,7 +123,8 @@ module _ (P : Prices) (L : Ordered P) (G : Graph (P .El)) (g : WellFormed G) (co
         subst (λ bs. All (λ e. Le P (P .nil) (slack P p e)) (map (loadEdge P G) bs)) (c .musts)
         (all-map (λ e. Le P (P .nil) (slack P p e)) (loadEdge P G) (map asMust (c .fillings))
         (all-map (λ b. Le P (P .nil) (slack P p (loadEdge P G b))) asMust (c .fillings)
-        (all-weaken (λ f. Network.Sound P (live G) (inNode (length (G .vertices))) p (asLoad P G f)) (λ f. Le P (P .nil) (slack P p (edgeOf P G (f .link)))) (c .fillings)
+        (all-weaken (λ f. Network.Sound P (live G) (inNode (length (G .vertices))) p (asLoad P G f)) (λ f. Le P (P .nil) (slack P p (edgeOf P G (f .link))))
+        (c .fillings)
         (λ f h. h .slack-holds) (c .sound))))
 
     edge-holds : (l : Link) → OneOf (edges P G rs) (edgeOf P G l) → Le P (P .nil) (slack P p (edgeOf P G l))
@@ -148,11 +153,14 @@ module _ (P : Prices) (L : Ordered P) (G : Graph (P .El)) (g : WellFormed G) (co
     unfolding marks
     shown = slacks-hold P L G g p (ends .low) (ends .high) spread costs
 
-    marks-within : (v : ℕ) → v < length (G .vertices) → MarkWithin P G (2 * length (G .vertices)) (marks .into v) × MarkWithin P G (2 * length (G .vertices)) (marks .out v)
+    marks-within : (v : ℕ) → v < length (G .vertices) →
+        MarkWithin P G (2 * length (G .vertices)) (marks .into v) × MarkWithin P G (2 * length (G .vertices)) (marks .out v)
     unfolding marks
     marks-within v b = (
-      side-among (MarkWithin P G (2 * length (G .vertices))) G (ends .low) (ends .high) (p (inNode v)) v (λ u. c .small (inNode v) (in-node G g v u)) (ends .low-within) (ends .high-within),
-      side-among (MarkWithin P G (2 * length (G .vertices))) G (ends .low) (ends .high) (p (outNode v)) v (λ u. c .small (outNode v) (out-node G g v u)) (ends .low-within) (ends .high-within),
+      side-among (MarkWithin P G (2 * length (G .vertices))) G (ends .low) (ends .high) (p (inNode v)) v (λ u. c .small (inNode v) (in-node G g v u))
+          (ends .low-within) (ends .high-within),
+      side-among (MarkWithin P G (2 * length (G .vertices))) G (ends .low) (ends .high) (p (outNode v)) v (λ u. c .small (outNode v) (out-node G g v u))
+          (ends .low-within) (ends .high-within),
     )
 
     -- ---- the cover
@@ -210,10 +218,18 @@ module _ (P : Prices) (L : Ordered P) (G : Graph (P .El)) (g : WellFormed G) (co
         link-tight i (f .link) (f .must) (subst (λ (y : Load Link). 1 ≤ passes i (y .what)) e k) (known .0 .1) (known .0 .2)
         (known .1 .tight (subst (λ (y : Load Link). 1 ≤ y .amount) e j))
 
-    module _ (idle : All (λ a. (T (usefulItem G (a .item)) → ⊥) → a .demand ≡ 0) (asks G)) (reads-linked : All (λ r. (2 ≤ length r) × T (linked (G .arcs) r)) rs) (d : Decomposed G Opens Closes (map asFull (c .fillings)) rs) where
+    module _ (idle : All (λ a. (T (usefulItem G (a .item)) → ⊥) → a .demand ≡ 0) (asks G))
+        (reads-linked : All (λ r. (2 ≤ length r) × T (linked (G .arcs) r)) rs) (d : Decomposed G Opens Closes (map asFull (c .fillings)) rs) where
       ask-total : (a : Ask) → OneOf (asks G) a → total (a .item) (merge (d .cover)) ≡ owed rs a + worth (passes (a .item)) (map asAdded (c .fillings))
       ask-total a m =
-          omega (arith, merge-total (a .item) (d .cover), d .totals (a .item), full-worth (passes (a .item)) (c .fillings), ap (worth (passes (a .item))) (c .musts), base-passes G rs g idle a m)
+          omega (
+            arith,
+            merge-total (a .item) (d .cover),
+            d .totals (a .item),
+            full-worth (passes (a .item)) (c .fillings),
+            ap (worth (passes (a .item))) (c .musts),
+            base-passes G rs g idle a m,
+          )
 
       held : (r : List ℕ) → T (someHolds (paths (d .cover)) r) → T (someHolds (paths (merge (d .cover))) r)
       held r h =
@@ -221,13 +237,16 @@ module _ (P : Prices) (L : Ordered P) (G : Graph (P .El)) (g : WellFormed G) (co
           merge-holds r w (d .cover) m (all-among (λ w. 1 ≤ w .weight) (d .cover) w (d .weights) m) k
 
       merged-paths : All (λ w. T (isPath G (w .path))) (merge (d .cover))
-      merged-paths = merge-all (λ p. T (isPath G p)) (d .cover) (all-weaken (λ w. T (isPath G (w .path))) (λ w. 1 ≤ w .weight → T (isPath G (w .path))) (d .cover) (λ w h k. h) (d .are-paths))
+      merged-paths =
+          merge-all (λ p. T (isPath G p)) (d .cover)
+          (all-weaken (λ w. T (isPath G (w .path))) (λ w. 1 ≤ w .weight → T (isPath G (w .path))) (d .cover) (λ w h k. h) (d .are-paths))
 
       covers : IsCover (withReads G rs) (merge (d .cover))
       covers =
           record {
             are-paths =
-                all-weaken (λ w. T (isPath G (w .path))) (λ w. T (isPath (withReads G rs) (w .path))) (merge (d .cover)) (λ w t. subst T (sym (path-with-reads G rs (w .path))) t) merged-paths;
+                all-weaken (λ w. T (isPath G (w .path))) (λ w. T (isPath (withReads G rs) (w .path))) (merge (d .cover))
+                (λ w t. subst T (sym (path-with-reads G rs (w .path))) t) merged-paths;
             weights = merge-weights (d .cover);
             distinct = merge-distinct (d .cover);
             demands-met = all-from (λ a. a .demand ≤ total (a .item) (merge (d .cover))) (asks G) (λ a m. omega (arith, ask-total a m));
@@ -243,18 +262,29 @@ module _ (P : Prices) (L : Ordered P) (G : Graph (P .El)) (g : WellFormed G) (co
       price-met =
           bound-met P L G g marks rs reads-linked (merge (d .cover)) merged-paths
           (merge-all (EndsMeet P G marks) (d .cover)
-          (all-weaken (λ w. AtEnds Opens Closes (w .path)) (λ w. 1 ≤ w .weight → EndsMeet P G marks (w .path)) (d .cover) (λ w h k. at-ends (w .path) h) (d .at-ends)))
+          (all-weaken (λ w. AtEnds Opens Closes (w .path)) (λ w. 1 ≤ w .weight → EndsMeet P G marks (w .path)) (d .cover) (λ w h k. at-ends (w .path) h)
+          (d .at-ends)))
           (all-from (λ a. (total (a .item) (merge (d .cover)) ≡ owed rs a) ⊎ (itemSlack P G marks (a .item) ≡ P .nil)) (asks G) meets)
         where
           meets : (a : Ask) → OneOf (asks G) a → (total (a .item) (merge (d .cover)) ≡ owed rs a) ⊎ (itemSlack P G marks (a .item) ≡ P .nil)
           meets a m = pick (worth (passes (a .item)) (map asAdded (c .fillings))) refl
             where
-              pick : (n : ℕ) → worth (passes (a .item)) (map asAdded (c .fillings)) ≡ n → (total (a .item) (merge (d .cover)) ≡ owed rs a) ⊎ (itemSlack P G marks (a .item) ≡ P .nil)
+              pick : (n : ℕ) → worth (passes (a .item)) (map asAdded (c .fillings)) ≡ n →
+                  (total (a .item) (merge (d .cover)) ≡ owed rs a) ⊎ (itemSlack P G marks (a .item) ≡ P .nil)
               pick zero e = inl (omega (arith, ask-total a m))
               pick (suc n) e = inr (added-tight (a .item) (omega arith))
 
       few-paths : length (merge (d .cover)) ≤ length (G .vertices) + length (G .arcs) + startCount (G .vertices) + endCount (G .vertices) + length rs
-      few-paths = omega (arith, merge-length (d .cover), d .few, length-map (c .fillings) asFull, length-map (c .fillings) asMust, ap length (c .musts), base-short G rs)
+      few-paths =
+          omega (
+            arith,
+            merge-length (d .cover),
+            d .few,
+            length-map (c .fillings) asFull,
+            length-map (c .fillings) asMust,
+            ap length (c .musts),
+            base-short G rs,
+          )
 
       few-copies : totalWeight (merge (d .cover)) ≤ sumOfDemands (asks G) + length rs
       few-copies = omega (arith, merge-weight (d .cover), d .copies, c .opened, base-amount G rs)
@@ -267,7 +297,9 @@ strong-duality P L G g costs coverable =
     let rs = prepare (G .reads) in
     let useful-reads = prepared-useful G g coverable in
     let c = carry P L G g costs rs (all-weaken (λ r. OfGraph G (reading r) × Useful G (reading r)) (λ r. Useful G (reading r)) rs (λ r h. h .1) useful-reads) in
-    let d = decomposed P L G g costs rs c (all-weaken (λ r. OfGraph G (reading r) × Useful G (reading r)) (λ r. OfGraph G (reading r)) rs (λ r h. h .0) useful-reads) in
+    let d =
+    decomposed P L G g costs rs c
+    (all-weaken (λ r. OfGraph G (reading r) × Useful G (reading r)) (λ r. OfGraph G (reading r)) rs (λ r h. h .0) useful-reads) in
     let idle = idle-asks G g coverable in
     let fewer = prepared-fewer (G .reads) in
     record {

@@ -98,14 +98,16 @@ module _ (P : Prices) (G : Graph (P .El)) where
   into-same : (M x : ℕ) → 0 < x → x < M → (l : Link) → intoOf M x l ≡ intoOf 0 x l
   into-same M x h k (opening v) = refl
   into-same M x h k (closing v) =
-      ap oneIf (is-false (eqb M x) (λ t. absurd (omega (arith, eqb→eq M x t)))) ∙ sym (ap oneIf (is-false (eqb 0 x) (λ t. absurd (omega (arith, eqb→eq 0 x t)))))
+      ap oneIf (is-false (eqb M x) (λ t. absurd (omega (arith, eqb→eq M x t)))) ∙
+      sym (ap oneIf (is-false (eqb 0 x) (λ t. absurd (omega (arith, eqb→eq 0 x t)))))
   into-same M x h k (inside v) = refl
   into-same M x h k (across u v) = refl
   into-same M x h k (reading r) = refl
 
   -- the full loads and the reads balance, as the transport does
   pub full-balanced : (fs : List Filling) (rs : List (List ℕ)) →
-      ((x : ℕ) → leaving (map asLoad fs) x + jobsTo (map (jobOf P G) (map asMust fs ++ readLoads rs)) x ≡ entering (map asLoad fs) x + jobsFrom (map (jobOf P G) (map asMust fs ++ readLoads rs)) x) →
+      ((x : ℕ) → leaving (map asLoad fs) x + jobsTo (map (jobOf P G) (map asMust fs ++ readLoads rs)) x ≡
+      entering (map asLoad fs) x + jobsFrom (map (jobOf P G) (map asMust fs ++ readLoads rs)) x) →
       AllBalanced G (map asFull fs ++ readLoads rs)
   full-balanced fs rs balance x h k =
       let M = inNode (length (G .vertices)) in

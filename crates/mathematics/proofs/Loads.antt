@@ -55,7 +55,8 @@ module _ {A : Type 0} where
   worth-append g (x ∷ xs) ys = omega (arith, worth-append g xs ys)
 
   -- values that agree on the list give the same worth
-  pub worth-same : (P : Load A → Type 0) (g h : A → ℕ) (xs : List (Load A)) → All P xs → ((x : Load A) → P x → g (x .what) ≡ h (x .what)) → worth g xs ≡ worth h xs
+  pub worth-same : (P : Load A → Type 0) (g h : A → ℕ) (xs : List (Load A)) → All P xs → ((x : Load A) → P x → g (x .what) ≡ h (x .what)) →
+      worth g xs ≡ worth h xs
   worth-same P g h [] p e = refl
   worth-same P g h (x ∷ xs) p e = ap₂ (λ (a b : ℕ). x .amount * a + b) (e x (p .0)) (worth-same P g h xs (p .1) e)
 
@@ -145,7 +146,8 @@ module _ {A : Type 0} where
   worth-present g [] = refl
   worth-present g (x ∷ xs) = go (ltb 0 (x .amount)) refl (worth-present g xs)
     where
-      go : (b : Bool) → ltb 0 (x .amount) ≡ b → worth g (passing isPresent xs) ≡ worth g xs → worth g (cond b (x ∷ passing isPresent xs) (passing isPresent xs)) ≡ worth g (x ∷ xs)
+      go : (b : Bool) → ltb 0 (x .amount) ≡ b → worth g (passing isPresent xs) ≡ worth g xs →
+          worth g (cond b (x ∷ passing isPresent xs) (passing isPresent xs)) ≡ worth g (x ∷ xs)
       go true e h = omega arith
       go false e h =
           let z : x .amount ≡ 0 = omega (arith, nltb→le 0 (x .amount) (rw e tt)) in

@@ -44,7 +44,8 @@ module _ {E : Type 0} (G : Graph E) (g : WellFormed G) (c : Coverable G) where
       first [] some t h = absurd (omega arith)
       first (v ∷ r) some t h = read-on-path G g v r t .0 h
 
-  read-useful : (r : List ℕ) → 2 ≤ length r → T (linked (G .arcs) r) → T (fromStart G (getD r 0 0)) → T (toEnd G (lastOf 0 r)) → OfGraph G (reading r) × Useful G (reading r)
+  read-useful : (r : List ℕ) → 2 ≤ length r → T (linked (G .arcs) r) → T (fromStart G (getD r 0 0)) → T (toEnd G (lastOf 0 r)) →
+      OfGraph G (reading r) × Useful G (reading r)
   read-useful [] some t f e = absurd (omega arith)
   read-useful (v ∷ []) some t f e = absurd (omega arith)
   read-useful (v ∷ w ∷ r) some t f e =

@@ -31,16 +31,20 @@ marksOf G p low high = record { into = λ v. sideMark G low high (p (inNode v)) 
 
 -- which of the three marks it is
 side-cases : {E F : Type 0} (G : Graph F) (low high own : E) (v : ℕ) →
-    (T (useful G v) × (sideMark G low high own v ≡ own)) ⊎ ((T (fromStart G v) × (T (toEnd G v) → ⊥) × (sideMark G low high own v ≡ low)) ⊎ ((T (fromStart G v) → ⊥) × (sideMark G low high own v ≡ high)))
+    (T (useful G v) × (sideMark G low high own v ≡ own)) ⊎
+    ((T (fromStart G v) × (T (toEnd G v) → ⊥) × (sideMark G low high own v ≡ low)) ⊎ ((T (fromStart G v) → ⊥) × (sideMark G low high own v ≡ high)))
 side-cases {E} G low high own v = go (fromStart G v) (toEnd G v)
   where
-    go : (a b : Bool) → (T (a && b) × (cond (a && b) own (cond a low high) ≡ own)) ⊎ ((T a × (T b → ⊥) × (cond (a && b) own (cond a low high) ≡ low)) ⊎ ((T a → ⊥) × (cond (a && b) own (cond a low high) ≡ high)))
+    go : (a b : Bool) →
+        (T (a && b) × (cond (a && b) own (cond a low high) ≡ own)) ⊎
+        ((T a × (T b → ⊥) × (cond (a && b) own (cond a low high) ≡ low)) ⊎ ((T a → ⊥) × (cond (a && b) own (cond a low high) ≡ high)))
     go true true = inl (tt, refl)
     go true false = inr (inl (tt, λ h. h, refl))
     go false b = inr (inr (λ h. h, refl))
 
 -- what holds of all three holds of it
-pub side-among : {E F : Type 0} (Q : E → Type 0) (G : Graph F) (low high own : E) (v : ℕ) → (T (useful G v) → Q own) → Q low → Q high → Q (sideMark G low high own v)
+pub side-among : {E F : Type 0} (Q : E → Type 0) (G : Graph F) (low high own : E) (v : ℕ) → (T (useful G v) → Q own) → Q low → Q high →
+    Q (sideMark G low high own v)
 side-among Q G low high own v a b c =
     elim (side-cases G low high own v) [
       | inl h ↦ subst Q (sym (h .1)) (a (h .0))
@@ -55,7 +59,8 @@ cond-holds true t h = h tt
 cond-holds false t h = tt
 
 -- slacks hold at all vertices where they do at each
-vertices-hold : (P : Prices) (G : Graph (P .El)) (m : Marks (P .El)) (k : ℕ) (xs : List Vertex) → ((j : ℕ) → T (vertexSlacksHold P G m (k + j) (getD xs j noVertex))) →
+vertices-hold : (P : Prices) (G : Graph (P .El)) (m : Marks (P .El)) (k : ℕ) (xs : List Vertex) →
+    ((j : ℕ) → T (vertexSlacksHold P G m (k + j) (getD xs j noVertex))) →
     VertexSlacksHold P G m k xs
 vertices-hold P G m k [] h = tt
 vertices-hold P G m k (x ∷ xs) h = (
@@ -81,7 +86,8 @@ module _ (P : Prices) (L : Ordered P) (G : Graph (P .El)) (g : WellFormed G) (p 
   -- ---- the slack of a used link is that of the marks
 
   pub open-slack : p 0 ≡ P .nil → (v : ℕ) → T (useful G v) → slack P p (edgeOf P G (opening v)) ≡ startSlack P G (marksOf G p low high) v
-  open-slack z v u = ap₂ (λ x y. sub P (P .add (G .opening) x) y) z (sym (side-useful G low high (p (inNode v)) v u)) ∙ ap (λ x. sub P x (m .into v)) (L .add-nil (G .opening))
+  open-slack z v u =
+      ap₂ (λ x y. sub P (P .add (G .opening) x) y) z (sym (side-useful G low high (p (inNode v)) v u)) ∙ ap (λ x. sub P x (m .into v)) (L .add-nil (G .opening))
 
   pub close-slack : p 0 ≡ P .nil → (v : ℕ) → T (useful G v) → slack P p (edgeOf P G (closing v)) ≡ endSlack P (marksOf G p low high) v
   close-slack z v u =
@@ -96,7 +102,8 @@ module _ (P : Prices) (L : Ordered P) (G : Graph (P .El)) (g : WellFormed G) (p 
   pub across-slack : (u v : ℕ) → T (useful G u) → T (useful G v) →
       slack P p (edgeOf P G (across u v)) ≡ sub P (P .add (costOf P (G .arcs) u v) (marksOf G p low high .out u)) (marksOf G p low high .into v)
   across-slack u v x y =
-      ap₂ (λ a b. sub P (P .add (costOf P (G .arcs) u v) a) b) (sym (side-useful G low high (p (outNode u)) u x)) (sym (side-useful G low high (p (inNode v)) v y))
+      ap₂ (λ a b. sub P (P .add (costOf P (G .arcs) u v) a) b) (sym (side-useful G low high (p (outNode u)) u x))
+      (sym (side-useful G low high (p (inNode v)) v y))
 
   -- ---- no slack is below nothing
 
@@ -124,14 +131,16 @@ module _ (P : Prices) (L : Ordered P) (G : Graph (P .El)) (g : WellFormed G) (p 
     vertex-holds v =
         elim (test (useful G v)) [
           | inl u ↦ subst (Le P (P .nil)) (inside-slack v u) (k .inside-holds v u)
-          | inr n ↦ Algebra.sub-holds P L (m .out v) (m .into v) (Algebra.le-of-eq P L (m .out v) (m .into v) (useless (p (outNode v)) n ∙ sym (useless (p (inNode v)) n)))
+          | inr n ↦ Algebra.sub-holds P L (m .out v) (m .into v)
+              (Algebra.le-of-eq P L (m .out v) (m .into v) (useless (p (outNode v)) n ∙ sym (useless (p (inNode v)) n)))
         ]
       where
         useless : (own : P .El) → (T (useful G v) → ⊥) → sideMark G low high own v ≡ cond (fromStart G v) low high
         useless own n = ap (λ b. cond b own (cond (fromStart G v) low high)) (is-false (useful G v) n)
 
     -- the four kinds of arc between useful vertices and others
-    arc-order : (c : P .El) → Le P (P .nil) c → (u v : ℕ) → T (hasArc (G .arcs) u v) → (T (useful G u) → T (useful G v) → Le P (m .into v) (P .add c (m .out u))) → Le P (m .into v) (P .add c (m .out u))
+    arc-order : (c : P .El) → Le P (P .nil) c → (u v : ℕ) → T (hasArc (G .arcs) u v) →
+        (T (useful G u) → T (useful G v) → Le P (m .into v) (P .add c (m .out u))) → Le P (m .into v) (P .add c (m .out u))
     arc-order c nn u v t both = go (side-cases G low high (p (inNode v)) v) (side-cases G low high (p (outNode u)) u)
       where
         reached : T (fromStart G u) → T (fromStart G v)
@@ -144,7 +153,9 @@ module _ (P : Prices) (L : Ordered P) (G : Graph (P .El)) (g : WellFormed G) (p 
         dearer x y h = L .le-trans x y (P .add c y) h (subst (Le P y) (L .add-comm y c) (Algebra.le-add-more P L y c nn))
 
         go : (T (useful G v) × (m .into v ≡ p (inNode v))) ⊎ ((T (fromStart G v) × (T (toEnd G v) → ⊥) × (m .into v ≡ low)) ⊎ ((T (fromStart G v) → ⊥) × (m .into v ≡ high))) →
-            (T (useful G u) × (m .out u ≡ p (outNode u))) ⊎ ((T (fromStart G u) × (T (toEnd G u) → ⊥) × (m .out u ≡ low)) ⊎ ((T (fromStart G u) → ⊥) × (m .out u ≡ high))) → Le P (m .into v) (P .add c (m .out u))
+            (T (useful G u) × (m .out u ≡ p (outNode u))) ⊎
+            ((T (fromStart G u) × (T (toEnd G u) → ⊥) × (m .out u ≡ low)) ⊎ ((T (fromStart G u) → ⊥) × (m .out u ≡ high))) → Le P (m .into v)
+            (P .add c (m .out u))
         go (inl a) (inl b) = both (b .0) (a .0)
         go (inl a) (inr (inl b)) = absurd (b .1 (ends (and-r (fromStart G v) (toEnd G v) (a .0))))
         go (inl a) (inr (inr b)) = dearer (m .into v) (m .out u) (subst₂ (Le P) (sym (a .1)) (sym (b .1)) (k .high-most (inNode v) (in-node G g v (a .0))))
@@ -160,7 +171,8 @@ module _ (P : Prices) (L : Ordered P) (G : Graph (P .El)) (g : WellFormed G) (p 
         Algebra.sub-holds P L (m .into (a .head)) (P .add (a .cost) (m .out (a .tail)))
         (arc-order (a .cost) (all-among (λ b. Le P (P .nil) (b .cost)) (G .arcs) a (c .costs-hold) o) (a .tail) (a .head) joined
         (λ x y. Algebra.le-of-sub P L (m .into (a .head)) (P .add (a .cost) (m .out (a .tail)))
-        (subst (λ z. Le P (P .nil) (sub P (P .add z (m .out (a .tail))) (m .into (a .head)))) (cost-own P (G .arcs) a (a .tail) (a .head) (g .once) o (joins-own a))
+        (subst (λ z. Le P (P .nil) (sub P (P .add z (m .out (a .tail))) (m .into (a .head))))
+        (cost-own P (G .arcs) a (a .tail) (a .head) (g .once) o (joins-own a))
         (subst (Le P (P .nil)) (across-slack (a .tail) (a .head) x y) (k .across-holds (a .tail) (a .head) joined x y)))))
       where
         joined : T (hasArc (G .arcs) (a .tail) (a .head))
@@ -170,12 +182,15 @@ module _ (P : Prices) (L : Ordered P) (G : Graph (P .El)) (g : WellFormed G) (p 
     pub slacks-hold : CostsHold P G → SlacksHold P G (marksOf G p low high)
     slacks-hold c =
         record {
-          vertices-hold = vertices-hold P G m 0 (G .vertices) (λ j. subst (λ (n : ℕ). T (vertexSlacksHold P G m n (getD (G .vertices) j noVertex))) (omega arith) (at j));
+          vertices-hold =
+              vertices-hold P G m 0 (G .vertices) (λ j. subst (λ (n : ℕ). T (vertexSlacksHold P G m n (getD (G .vertices) j noVertex))) (omega arith) (at j));
           arcs-hold = all-from (λ a. T (arcSlackHolds P m a)) (G .arcs) (arc-holds c);
         }
       where
         at : (v : ℕ) → T (vertexSlacksHold P G m v (getD (G .vertices) v noVertex))
         at v =
-            and-in (cond (isStart G v) (P .leb (P .nil) (startSlack P G m v)) true) (cond (isEnd G v) (P .leb (P .nil) (endSlack P m v)) true && P .leb (P .nil) (vertexSlack P m v))
+            and-in (cond (isStart G v) (P .leb (P .nil) (startSlack P G m v)) true)
+            (cond (isEnd G v) (P .leb (P .nil) (endSlack P m v)) true && P .leb (P .nil) (vertexSlack P m v))
             (cond-holds (isStart G v) (P .leb (P .nil) (startSlack P G m v)) (start-holds v))
-            (and-in (cond (isEnd G v) (P .leb (P .nil) (endSlack P m v)) true) (P .leb (P .nil) (vertexSlack P m v)) (cond-holds (isEnd G v) (P .leb (P .nil) (endSlack P m v)) (end-holds v)) (vertex-holds v))
+            (and-in (cond (isEnd G v) (P .leb (P .nil) (endSlack P m v)) true) (P .leb (P .nil) (vertexSlack P m v))
+            (cond-holds (isEnd G v) (P .leb (P .nil) (endSlack P m v)) (end-holds v)) (vertex-holds v))

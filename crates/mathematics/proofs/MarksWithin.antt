@@ -30,7 +30,8 @@ among-image f (x ∷ xs) y (inl e) = (x, inl refl, e)
 among-image f (x ∷ xs) y (inr m) = let (z, o, e) = among-image f xs y m in (z, inr o, e)
 
 module _ (P : Prices) where
-  climb-append : (x : P .El) (ss : List (Step (P .El))) (s : Step (P .El)) → climb P x (ss ++ (s ∷ [])) ≡ cond (s .up) (P .add (climb P x ss) (s .cost)) (sub P (climb P x ss) (s .cost))
+  climb-append : (x : P .El) (ss : List (Step (P .El))) (s : Step (P .El)) →
+      climb P x (ss ++ (s ∷ [])) ≡ cond (s .up) (P .add (climb P x ss) (s .cost)) (sub P (climb P x ss) (s .cost))
   climb-append x [] s = refl
   climb-append x (r ∷ ss) s = climb-append (cond (r .up) (P .add x (r .cost)) (sub P x (r .cost))) ss s
 
@@ -44,7 +45,8 @@ module _ (P : Prices) (G : Graph (P .El)) where
   within-nil : (k : ℕ) (x : P .El) → x ≡ P .nil → MarkWithin P G k x
   within-nil k x e = record { opened = false; steps = []; few = omega arith; of-arcs = tt; reaches = e }
 
-  within-step : (k : ℕ) (x y : P .El) (s : Step (P .El)) → OneOf (map (λ (a : Arc (P .El)). a .cost) (G .arcs)) (s .cost) → y ≡ cond (s .up) (P .add x (s .cost)) (sub P x (s .cost)) →
+  within-step : (k : ℕ) (x y : P .El) (s : Step (P .El)) → OneOf (map (λ (a : Arc (P .El)). a .cost) (G .arcs)) (s .cost) →
+      y ≡ cond (s .up) (P .add x (s .cost)) (sub P x (s .cost)) →
       MarkWithin P G k x → MarkWithin P G (suc k) y
   within-step k x y s m e w =
       record {
@@ -66,7 +68,8 @@ module _ (P : Prices) (L : Ordered P) (G : Graph (P .El)) (g : WellFormed G) (p 
       (sym (ap₂ (costOf P (G .arcs)) (sym e) (sym f) ∙ cost-own P (G .arcs) a (a .tail) (a .head) (g .once) m (joins-own a)))
       (among-map (λ (a : Arc (P .El)). a .cost) a (G .arcs) m)
 
-  along-link : (k : ℕ) (l : Link) → OfGraph G l → linkTo 0 l ≢ 0 → p (linkTo 0 l) ≡ P .add (p (linkFrom l)) (linkCost P G l) → MarkWithin P G k (p (linkFrom l)) →
+  along-link : (k : ℕ) (l : Link) → OfGraph G l → linkTo 0 l ≢ 0 → p (linkTo 0 l) ≡ P .add (p (linkFrom l)) (linkCost P G l) →
+      MarkWithin P G k (p (linkFrom l)) →
       MarkWithin P G (suc k) (p (linkTo 0 l))
   along-link k (opening v) o n e w = within-opening P G (suc k) (p (inNode v)) (e ∙ (ap (λ x. P .add x (G .opening)) root ∙ Algebra.nil-add P L (G .opening)))
   along-link k (closing v) o n e w = absurd (n refl)
@@ -88,15 +91,19 @@ module _ (P : Prices) (L : Ordered P) (G : Graph (P .El)) (g : WellFormed G) (p 
         let (b, o, q) = among-image (loadEdge P G) (base G rs) e m in
         (b .what, all-among (OfBase G) (base G rs) b (base-of-graph G rs) o .0, q)
 
-    forward-edge : (k : ℕ) (e : Edge (P .El)) → OneOf (edges P G rs) e → e .to ≢ 0 → p (e .to) ≡ P .add (p (e .from)) (e .cost) → MarkWithin P G k (p (e .from)) → MarkWithin P G (suc k) (p (e .to))
+    forward-edge : (k : ℕ) (e : Edge (P .El)) → OneOf (edges P G rs) e → e .to ≢ 0 → p (e .to) ≡ P .add (p (e .from)) (e .cost) →
+        MarkWithin P G k (p (e .from)) → MarkWithin P G (suc k) (p (e .to))
     forward-edge k e m =
         let (l, o, q) = link-of e m in
-        subst (λ (d : Edge (P .El)). d .to ≢ 0 → p (d .to) ≡ P .add (p (d .from)) (d .cost) → MarkWithin P G k (p (d .from)) → MarkWithin P G (suc k) (p (d .to))) (sym q) (along-link k l o)
+        subst (λ (d : Edge (P .El)). d .to ≢ 0 → p (d .to) ≡ P .add (p (d .from)) (d .cost) → MarkWithin P G k (p (d .from)) → MarkWithin P G (suc k)
+        (p (d .to))) (sym q) (along-link k l o)
 
-    backward-edge : (k : ℕ) (e : Edge (P .El)) → OneOf (edges P G rs) e → e .from ≢ 0 → p (e .from) ≡ sub P (p (e .to)) (e .cost) → MarkWithin P G k (p (e .to)) → MarkWithin P G (suc k) (p (e .from))
+    backward-edge : (k : ℕ) (e : Edge (P .El)) → OneOf (edges P G rs) e → e .from ≢ 0 → p (e .from) ≡ sub P (p (e .to)) (e .cost) →
+        MarkWithin P G k (p (e .to)) → MarkWithin P G (suc k) (p (e .from))
     backward-edge k e m =
         let (l, o, q) = link-of e m in
-        subst (λ (d : Edge (P .El)). d .from ≢ 0 → p (d .from) ≡ sub P (p (d .to)) (d .cost) → MarkWithin P G k (p (d .to)) → MarkWithin P G (suc k) (p (d .from))) (sym q) (back-link k l o)
+        subst (λ (d : Edge (P .El)). d .from ≢ 0 → p (d .from) ≡ sub P (p (d .to)) (d .cost) → MarkWithin P G k (p (d .to)) → MarkWithin P G (suc k)
+        (p (d .from))) (sym q) (back-link k l o)
 
     -- the mark of a node, by its way from the root
     pub way-within : {u k : ℕ} → Way P (edges P G rs) p u k → MarkWithin P G k (p u)
@@ -126,7 +133,8 @@ below-all zero = tt
 below-all (suc k) = (omega arith, all-weaken (λ u. u < k) (λ u. u < suc k) (below k) (λ u h. omega arith) (below-all k))
 
 -- one of finitely many is furthest, by an order that compares any two
-furthest : (R : ℕ → ℕ → Type 0) → ((a b : ℕ) → R a b ⊎ R b a) → ((a b c : ℕ) → R a b → R b c → R a c) → (Q : ℕ → Type 0) (u : ℕ) (us : List ℕ) → Q u → All Q us →
+furthest : (R : ℕ → ℕ → Type 0) → ((a b : ℕ) → R a b ⊎ R b a) → ((a b c : ℕ) → R a b → R b c → R a c) → (Q : ℕ → Type 0) (u : ℕ) (us : List ℕ) → Q u →
+    All Q us →
     (m : ℕ) × Q m × R u m × All (λ v. R v m) us
 furthest R total trans Q u [] q qs = (u, q, elim (total u u) [ inl r ↦ r | inr r ↦ r ], tt)
 furthest R total trans Q u (v ∷ us) q qs =
@@ -135,15 +143,23 @@ furthest R total trans Q u (v ∷ us) q qs =
   where
     pick : (m : ℕ) → Q m → R u m → All (λ v. R v m) us → R v m ⊎ R m v → (m : ℕ) × Q m × R u m × All (λ v. R v m) (v ∷ us)
     pick m k r all (inl s) = (m, k, r, (s, all))
-    pick m k r all (inr s) = (v, qs .0, trans u m v r s, (elim (total v v) [ inl t ↦ t | inr t ↦ t ], all-weaken (λ w. R w m) (λ w. R w v) us (λ w t. trans w m v t s) all))
+    pick m k r all (inr s) =
+        (v, qs .0, trans u m v r s, (elim (total v v) [ inl t ↦ t | inr t ↦ t ], all-weaken (λ w. R w m) (λ w. R w v) us (λ w t. trans w m v t s) all))
 
 module _ {E : Type 0} (G : Graph E) (g : WellFormed G) where
   -- among the nodes one is furthest
   furthest-node : (R : ℕ → ℕ → Type 0) → ((a b : ℕ) → R a b ⊎ R b a) → ((a b c : ℕ) → R a b → R b c → R a c) → (m : ℕ) × Node G m × ((u : ℕ) → Node G u → R u m)
   furthest-node R total trans =
       let nodes : List ℕ = passing (live G) (below (inNode (length (G .vertices)))) in
-      let (m, n, r, all) = furthest R total trans (Node G) 0 nodes (root-node G g) (all-passing (live G) (λ u. u < inNode (length (G .vertices))) (below (inNode (length (G .vertices)))) (below-all (inNode (length (G .vertices))))) in
-      (m, n, λ u k. all-among (λ v. R v m) nodes u all (among-passing (live G) (below (inNode (length (G .vertices)))) u (below-has (inNode (length (G .vertices))) u (k .0)) (k .1)))
+      let (m, n, r, all) =
+      furthest R total trans (Node G) 0 nodes (root-node G g)
+      (all-passing (live G) (λ u. u < inNode (length (G .vertices))) (below (inNode (length (G .vertices))))
+      (below-all (inNode (length (G .vertices))))) in (
+        m,
+        n,
+        λ u k. all-among (λ v. R v m) nodes u all
+            (among-passing (live G) (below (inNode (length (G .vertices)))) u (below-has (inNode (length (G .vertices))) u (k .0)) (k .1)),
+      )
 
 module _ (P : Prices) (L : Ordered P) (G : Graph (P .El)) (g : WellFormed G) (p : ℕ → P .El) where
   -- Marks below and above those of all nodes, and the lower not above the opening price; each is as small as a node's mark.

@@ -118,12 +118,14 @@ module _ (P : Prices) (G : Graph (P .El)) where
     walk-along u [] z t h w = w
     walk-along u (v ∷ p) z t h w =
         step (edgeOf (inside u)) (inside-edge u (h .0))
-        (step (edgeOf (across u v)) (across-edge u v (linked-first (G .arcs) u v p t) (h .0) (h .1 .0)) (walk-along v p z (linked-rest (G .arcs) u v p t) (h .1) w))
+        (step (edgeOf (across u v)) (across-edge u v (linked-first (G .arcs) u v p t) (h .0) (h .1 .0))
+        (walk-along v p z (linked-rest (G .arcs) u v p t) (h .1) w))
 
     to-in : (v : ℕ) → T (useful G v) → (z : ℕ) → Walk (edges rs) (inNode v) z → Walk (edges rs) 0 z
     to-in v u z w =
         let (s, p, start, t, e) = from-start-path G v (and-l (fromStart G v) (toEnd G v) u) in
-        let h : All (λ x. T (useful G x)) (s ∷ p) = useful-along G g s p t (start-from-start G s start) (subst (λ (x : ℕ). T (toEnd G x)) (sym e) (and-r (fromStart G v) (toEnd G v) u)) in
+        let h : All (λ x. T (useful G x)) (s ∷ p) =
+        useful-along G g s p t (start-from-start G s start) (subst (λ (x : ℕ). T (toEnd G x)) (sym e) (and-r (fromStart G v) (toEnd G v) u)) in
         step (edgeOf (opening s)) (has-edge (opening s) (has-opening G rs s start (h .0)))
         (walk-along s p z t h (subst (λ (x : ℕ). Walk (edges rs) (inNode x) z) (sym e) w))
 
@@ -166,7 +168,10 @@ module _ (P : Prices) (G : Graph (P .El)) where
     cost-holds c (inside v) t = L .le-refl (P .nil)
     cost-holds c (across u v) t =
         let (a, m, e, f) = joining-arc (G .arcs) u v t in
-        subst (λ x. Le P (P .nil) x) (sym (cost-own P (G .arcs) a u v (g .once) m (and-in (eqb (a .tail) u) (eqb (a .head) v) (subst (λ (x : ℕ). T (eqb (a .tail) x)) e (eqb-refl (a .tail))) (subst (λ (x : ℕ). T (eqb (a .head) x)) f (eqb-refl (a .head))))))
+        subst (λ x. Le P (P .nil) x)
+        (sym (cost-own P (G .arcs) a u v (g .once) m
+        (and-in (eqb (a .tail) u) (eqb (a .head) v) (subst (λ (x : ℕ). T (eqb (a .tail) x)) e (eqb-refl (a .tail)))
+        (subst (λ (x : ℕ). T (eqb (a .head) x)) f (eqb-refl (a .head))))))
         (all-among (λ b. Le P (P .nil) (b .cost)) (G .arcs) a (c .costs-hold) m)
     cost-holds c (reading r) t = L .le-refl (P .nil)
 
@@ -175,9 +180,15 @@ module _ (P : Prices) (G : Graph (P .El)) where
     wired c =
         record {
           root-node = root-node G g;
-          from-nodes = all-map (λ e. Node G (e .from)) loadEdge (base G rs) (all-weaken (OfBase G) (λ b. Node G (linkFrom (b .what))) (base G rs) (λ b h. link-nodes G g (b .what) (h .1) .0) (base-of-graph G rs));
-          to-nodes = all-map (λ e. Node G (e .to)) loadEdge (base G rs) (all-weaken (OfBase G) (λ b. Node G (linkTo 0 (b .what))) (base G rs) (λ b h. link-nodes G g (b .what) (h .1) .1) (base-of-graph G rs));
-          costs-hold = all-map (λ e. Le P (P .nil) (e .cost)) loadEdge (base G rs) (all-weaken (OfBase G) (λ b. Le P (P .nil) (linkCost (b .what))) (base G rs) (λ b h. cost-holds c (b .what) (h .0)) (base-of-graph G rs));
+          from-nodes =
+              all-map (λ e. Node G (e .from)) loadEdge (base G rs)
+              (all-weaken (OfBase G) (λ b. Node G (linkFrom (b .what))) (base G rs) (λ b h. link-nodes G g (b .what) (h .1) .0) (base-of-graph G rs));
+          to-nodes =
+              all-map (λ e. Node G (e .to)) loadEdge (base G rs)
+              (all-weaken (OfBase G) (λ b. Node G (linkTo 0 (b .what))) (base G rs) (λ b h. link-nodes G g (b .what) (h .1) .1) (base-of-graph G rs));
+          costs-hold =
+              all-map (λ e. Le P (P .nil) (e .cost)) loadEdge (base G rs)
+              (all-weaken (OfBase G) (λ b. Le P (P .nil) (linkCost (b .what))) (base G rs) (λ b h. cost-holds c (b .what) (h .0)) (base-of-graph G rs));
           from-root = walk-to;
           to-root = walk-from;
         }
@@ -195,9 +206,11 @@ module _ (P : Prices) (G : Graph (P .El)) where
     pub job-sources : All (λ r. Useful G (reading r)) rs → All (λ j. Node G (j .source)) (jobs rs)
     job-sources h =
         all-map (λ j. Node G (j .source)) jobOf (base G rs ++ readLoads rs)
-        (all-weaken (λ b. Node G (linkFrom (b .what)) × Node G (linkTo 0 (b .what))) (λ b. Node G (linkTo 0 (b .what))) (base G rs ++ readLoads rs) (λ b k. k .1) (job-nodes h))
+        (all-weaken (λ b. Node G (linkFrom (b .what)) × Node G (linkTo 0 (b .what))) (λ b. Node G (linkTo 0 (b .what))) (base G rs ++ readLoads rs)
+        (λ b k. k .1) (job-nodes h))
 
     pub job-targets : All (λ r. Useful G (reading r)) rs → All (λ j. Node G (j .target)) (jobs rs)
     job-targets h =
         all-map (λ j. Node G (j .target)) jobOf (base G rs ++ readLoads rs)
-        (all-weaken (λ b. Node G (linkFrom (b .what)) × Node G (linkTo 0 (b .what))) (λ b. Node G (linkFrom (b .what))) (base G rs ++ readLoads rs) (λ b k. k .0) (job-nodes h))
+        (all-weaken (λ b. Node G (linkFrom (b .what)) × Node G (linkTo 0 (b .what))) (λ b. Node G (linkFrom (b .what))) (base G rs ++ readLoads rs)
+        (λ b k. k .0) (job-nodes h))
