@@ -3,3 +3,7 @@ pub mod Scan
 pub mod HeaderLaws
 pub mod RecordLaws
 pub mod ArcLaws
+pub mod WalkLaws
+pub mod ReadLaws
+pub mod RightLaws
+pub mod ThenLaws
