@@ -7,3 +7,4 @@ pub mod WalkLaws
 pub mod ReadLaws
 pub mod RightLaws
 pub mod ThenLaws
+pub mod GraphReads

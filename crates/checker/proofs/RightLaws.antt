@@ -2,19 +2,19 @@
 use Prim.Native.Nat.{ℕ, zero, suc, _+_, _-_, _<_, _≤_}
 use native.Mathlib.Omega.{arith}
 use native.Mathlib.Decide.{decLe}
-use mathlib.Core.Path.{_≡_, refl, sym, ap, subst, _∙_}
+use mathlib.Core.Path.{_≡_, refl, sym, ap, ap₂, subst, _∙_}
 use mathlib.Core.List.{List, [], _∷_}
 use mathlib.Core.Bool.{Bool, true, false, cond, not, _&&_, _||_}
 use mathlib.Core.Logic.{_⊎_, inl, inr, ⊎-elim}
 use lib.Dec.{T, ltb, eqb}
 use lib.ListN.{length}
-use borrow.Author.Tests.{ltb-true, ltb-false, leb-false, eqb-true, eqb-false, not-false, ne-eqb}
+use borrow.Author.Tests.{ltb-true, ltb-false, leb-false, eqb-true, eqb-false, not-false, eq-eqb, ne-eqb, lt-ltb}
 use Rattle.mathematics.specs.Lists.{All}
 use Rattle.mathematics.specs.Graph.{linked}
 use Rattle.checker.specs.declared.Verdict.{Verdict}
 use Rattle.checker.specs.GraphForm.{vertexCount, arcCount, arcAt, arcTail, arcHead, readVertices}
 use Rattle.checker.specs.GraphOf.{arcsOf}
-use Rattle.checker.specs.GraphFaults.{refusal, headerVerdict, firstFault, vertexFault, follows, ascends, arcFault, arcsVerdict, allBelow, walks, readFault}
+use Rattle.checker.specs.GraphFaults.{refusal, nothingRefused, headerVerdict, firstFault, vertexFault, follows, ascends, arcFault, arcsVerdict, allBelow, walks, readFault}
 use Rattle.checker.specs.GraphReads.{HeaderRight, VertexRight, ArcRight, Before, ReadRight, ArcsRight}
 
 no-fault : (t : Bool) (k x : ℕ) → cond t (suc k) x ≡ 0 → (t ≡ false) × (x ≡ 0)
@@ -96,6 +96,15 @@ follows-before : (s : List ℕ) (a b : ℕ) → follows s a b ≡ true → Befor
 follows-before s a b e =
     ⊎-elim (λ h. inl (ltb-true _ _ h)) (λ h. let p = both (eqb (arcTail s a) (arcTail s b)) (ltb (arcHead s a) (arcHead s b)) h in inr (eqb-true _ _ (p .0), ltb-true _ _ (p .1))) (either _ _ e)
 
+pub before-follows : (s : List ℕ) (a b : ℕ) → Before s a b → follows s a b ≡ true
+before-follows s a b (inl h) = simp (lt-ltb (arcTail s a) (arcTail s b) h)
+before-follows s a b (inr h) =
+    ap (λ t. ltb (arcTail s a) (arcTail s b) || t) (ap₂ (λ x y. x && y) (eq-eqb _ _ (h .0)) (lt-ltb _ _ (h .1))) ∙ or-true (ltb (arcTail s a) (arcTail s b))
+  where
+    or-true : (x : Bool) → (x || true) ≡ true
+    or-true true = refl
+    or-true false = refl
+
 -- an arc that is not the first follows the one before it
 pub next-follows : (s : List ℕ) (a : ℕ) → ascends s (arcAt s (suc a)) ≡ follows s (arcAt s a) (arcAt s (suc a))
 next-follows s a =
@@ -106,6 +115,10 @@ next-follows s a =
 pub below-all : (n : ℕ) (vs : List ℕ) → allBelow n vs ≡ true → All (λ v. v < n) vs
 below-all n [] e = tt
 below-all n (v ∷ vs) e = let p = both (ltb v n) (allBelow n vs) e in (ltb-true v n (p .0), below-all n vs (p .1))
+
+pub all-below : (n : ℕ) (vs : List ℕ) → All (λ v. v < n) vs → allBelow n vs ≡ true
+all-below n [] h = refl
+all-below n (v ∷ vs) h = simp (lt-ltb v n (h .0)) (all-below n vs (h .1))
 
 pub read-holds : (s : List ℕ) (at : ℕ) → readFault s at ≡ 0 → ReadRight s at
 unfolding readFault walks
@@ -139,6 +152,13 @@ module _ (fault place : ℕ → ℕ) where
         | yes l ↦ each-right n (suc i) (h .1) k l (omega arith)
         | no l ↦ let same : i ≡ k = omega arith in subst (λ j. fault j ≡ 0) same (h .0)
       ]
+
+  -- each record is right: no refusal
+  pub all-right : (n i : ℕ) → ((k : ℕ) → i ≤ k → k < i + n → fault k ≡ 0) → nothingRefused ≡ firstFault fault place n i
+  unfolding firstFault
+  all-right zero i right = refl
+  all-right (suc n) i right =
+      simp (eq-eqb (fault i) 0 (right i (omega arith) (omega arith))) (all-right n (suc i) (λ k a b. right k (omega arith) (omega arith)))
 
 -- a right header and no refused arc: the arcs are right
 pub arcs-hold : (s : List ℕ) → HeaderRight s → arcsVerdict s .number ≡ 0 → ArcsRight s
