@@ -8,3 +8,4 @@ pub mod ReadLaws
 pub mod RightLaws
 pub mod ThenLaws
 pub mod GraphReads
+pub mod GraphFacts
