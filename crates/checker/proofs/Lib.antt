@@ -9,3 +9,4 @@ pub mod RightLaws
 pub mod ThenLaws
 pub mod GraphReads
 pub mod GraphFacts
+pub mod Lookup

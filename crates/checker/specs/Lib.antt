@@ -5,3 +5,4 @@ pub mod GraphFaults
 pub mod GraphOf
 pub mod GraphReads
 pub mod ArcTable
+pub mod Empty
