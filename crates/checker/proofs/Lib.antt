@@ -9,3 +9,10 @@ pub mod OverlapLaws
 pub mod AnswerLaws
 pub mod CertifyLawsSlack
 pub mod CertifyLaws
+pub mod WalkLaws
+pub mod ReadLaws
+pub mod RightLaws
+pub mod ThenLaws
+pub mod GraphReads
+pub mod GraphFacts
+pub mod Lookup

@@ -10,3 +10,4 @@ pub mod GraphReads
 pub mod ArcTable
 pub mod ReadTable
 pub mod Certify
+pub mod Empty
