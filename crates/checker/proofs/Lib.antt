@@ -1,3 +1,4 @@
 -- Laws that the proofs of functions cite.
 pub mod TableLaws
 pub mod OverlapLaws
+pub mod TableRows

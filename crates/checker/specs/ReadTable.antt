@@ -2,9 +2,12 @@
 use Prim.Native.Nat.{ℕ, zero, suc, _+_, _≤_, _<_}
 use mathlib.Core.Path.{_≡_}
 use mathlib.Core.List.{List, [], _∷_}
-use mathlib.Core.Bool.{Bool}
+use mathlib.Core.Bool.{Bool, true, false, _&&_, _||_}
+use lib.Dec.{ltb}
 use lib.ListN.{length, getD, take, drop}
-use Rattle.mathematics.specs.Lists.{All, begins}
+use Rattle.mathematics.specs.Lists.{All, begins, holds, someHolds}
+use Rattle.mathematics.specs.Prepare.{someLonger, Meeting, longestWith, longestFrom}
+use Rattle.checker.specs.declared.reads.Meeting.{Meeting as Found}
 
 -- the read in row i
 unfoldable pub rowAt : List (List ℕ) → List ℕ → ℕ → List ℕ
@@ -49,6 +52,38 @@ pub record TableHolds (rows : List (List ℕ)) (lens : List ℕ) (count : ℕ) :
   pub sized : length lens ≡ 16
   pub fit : (i : ℕ) → i < count → getD lens i 0 ≤ 64
   pub reads : All ReadHolds (rowsOf rows lens count)
+
+-- one of the first i reads, from the j-th on, holds the read in row i
+unfoldable pub heldFrom : List (List ℕ) → List ℕ → ℕ → ℕ → Bool
+heldFrom rows lens i j = someHolds (drop j (rowsOf rows lens i)) (rowAt rows lens i)
+
+-- the read in row j is longer than the read in row i and holds it
+unfoldable pub longerAt : List (List ℕ) → List ℕ → ℕ → ℕ → Bool
+longerAt rows lens i j = ltb (length (rowAt rows lens i)) (length (rowAt rows lens j)) && holds (rowAt rows lens j) (rowAt rows lens i)
+
+-- one of the count reads, from the j-th on, is longer than the read in row i and holds it
+unfoldable pub longerFrom : List (List ℕ) → List ℕ → ℕ → ℕ → ℕ → Bool
+longerFrom rows lens count i j = someLonger (drop j (rowsOf rows lens count)) (rowAt rows lens i)
+
+-- the read in row i is dropped
+unfoldable pub gone : List (List ℕ) → List ℕ → ℕ → ℕ → Bool
+gone rows lens count i = heldFrom rows lens i 0 || longerFrom rows lens count i (i + 1)
+
+-- marks of the reads that are dropped
+abbrev pub Marks : List (List ℕ) → List ℕ → ℕ → List Bool → Type 0
+Marks rows lens count marks = (k : ℕ) → k < count → getD marks k false ≡ gone rows lens count k
+
+-- the struct's value as the mathematics' pair of reads
+abbrev pub meeting : Found → Meeting
+meeting p = record { length = p .length; i = p .i; j = p .j }
+
+-- the longest with the read in row i, among the count reads from the j-th on, and best
+unfoldable pub withFrom : List (List ℕ) → List ℕ → ℕ → ℕ → ℕ → Meeting → Meeting
+withFrom rows lens count i j best = longestWith i (rowAt rows lens i) j (drop j (rowsOf rows lens count)) best
+
+-- the longest with a read from row i on, and best
+unfoldable pub allFrom : List (List ℕ) → List ℕ → ℕ → ℕ → Meeting → Meeting
+allFrom rows lens count i best = longestFrom i (rowsOf rows lens count) (drop i (rowsOf rows lens count)) best
 
 -- p is where v stands in the rising list r, or would stand
 pub record Place (r : List ℕ) (v p : ℕ) : Type 0 where

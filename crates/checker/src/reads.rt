@@ -1,12 +1,19 @@
 // Preparing the reads: a table of reads, a row each, lengths beside it. What a part of another is dropped; then the longest overlap is joined, while there is one.
 ghost use mathlib.Core.Path.{_≡_};
 ghost use mathlib.Core.List.{List, [], _∷_, _++_};
-ghost use mathlib.Core.Bool.{Bool, true, false, _||_};
+ghost use mathlib.Core.Bool.{Bool, true, false, cond};
 ghost use Prim.Native.Nat.{ℕ, suc, _+_, _-_, _<_, _≤_};
 ghost use lib.ListN.{length, getD, take, drop};
-ghost use Rattle.mathematics.specs.Lists.{begins, holds, someHolds};
-ghost use Rattle.mathematics.specs.Prepare.{someLonger, dropParts, overlap as overlapOf};
-ghost use Rattle.checker.specs.ReadTable.{rowAt, rowsOf, runs, RowHolds, TableHolds, Place};
+ghost use Rattle.mathematics.specs.Lists.{holds};
+ghost use Rattle.mathematics.specs.Prepare.{dropParts, overlap as overlapOf, longer, longestWith, longest as longestOf, joinAt, prepare};
+ghost use Rattle.checker.specs.ReadTable.{rowAt, rowsOf, runs, heldFrom, longerAt, longerFrom, gone, Marks, meeting, withFrom, allFrom, RowHolds, TableHolds, Place};
+
+// A pair of reads, by their rows, and the length of their overlap.
+pub struct Meeting {
+    pub length: usize,
+    pub i: usize,
+    pub j: usize,
+}
 
 // Where v stands in the read of row j, or would stand.
 fn place(rows: &[[u8; 64]; 16], lens: &[usize; 16], j: usize, v: u8) -> usize
@@ -100,4 +107,73 @@ fn overlap(rows: &[[u8; 64]; 16], lens: &[usize; 16], i: usize, j: usize) -> usi
     } else {
         0
     }
+}
+
+// Whether the read of row i is a part of a read of a lower row.
+fn in_earlier(rows: &[[u8; 64]; 16], lens: &[usize; 16], i: usize) -> bool
+    requires { ⌜ TableHolds (now rows) (now lens) (i + 1) ⌝ }
+    ensures { λ r. ⌜ r ≡ heldFrom (now (rows .entry)) (now (lens .entry)) i 0 ⌝ }
+{
+    let mut j = 0;
+    while j < i {
+        if is_part(rows, lens, i, j) {
+            return true;
+        }
+        j += 1;
+    }
+    false
+}
+
+// Whether the read of row i is shorter than the read of row j and a part of it.
+fn is_longer(rows: &[[u8; 64]; 16], lens: &[usize; 16], i: usize, j: usize) -> bool
+    requires read_i { ⌜ RowHolds (now rows) (now lens) i ⌝ }
+    requires read_j { ⌜ RowHolds (now rows) (now lens) j ⌝ }
+    ensures { λ r. ⌜ r ≡ longerAt (now (rows .entry)) (now (lens .entry)) i j ⌝ }
+{
+    if lens[j] <= lens[i] {
+        return false;
+    }
+    is_part(rows, lens, i, j)
+}
+
+// Whether the read of row i is a part of a longer read of a higher row.
+fn in_later(rows: &[[u8; 64]; 16], lens: &[usize; 16], count: usize, i: usize) -> bool
+    requires table { ⌜ TableHolds (now rows) (now lens) count ⌝ }
+    requires inside { ⌜ i < count ⌝ }
+    ensures { λ r. ⌜ r ≡ longerFrom (now (rows .entry)) (now (lens .entry)) count i (i + 1) ⌝ }
+{
+    let mut j = i + 1;
+    while j < count {
+        if is_longer(rows, lens, i, j) {
+            return true;
+        }
+        j += 1;
+    }
+    false
+}
+
+// The marks of the reads that are dropped.
+fn marks(rows: &[[u8; 64]; 16], lens: &[usize; 16], count: usize) -> [bool; 16]
+    requires { ⌜ TableHolds (now rows) (now lens) count ⌝ }
+    ensures { λ r. ⌜ Marks (now (rows .entry)) (now (lens .entry)) count r ⌝ }
+{
+    let mut marks = [false; 16];
+    let mut i = 0;
+    while i < count {
+        marks[i] = is_gone(rows, lens, count, i);
+        i += 1;
+    }
+    marks
+}
+
+// Whether the read of row i is dropped.
+fn is_gone(rows: &[[u8; 64]; 16], lens: &[usize; 16], count: usize, i: usize) -> bool
+    requires table { ⌜ TableHolds (now rows) (now lens) count ⌝ }
+    requires inside { ⌜ i < count ⌝ }
+    ensures { λ r. ⌜ r ≡ gone (now (rows .entry)) (now (lens .entry)) count i ⌝ }
+{
+    if in_earlier(rows, lens, i) {
+        return true;
+    }
+    in_later(rows, lens, count, i)
 }
