@@ -2,3 +2,4 @@
 pub mod TableLaws
 pub mod OverlapLaws
 pub mod TableRows
+pub mod DropLaws

@@ -53,6 +53,11 @@ pub record TableHolds (rows : List (List ℕ)) (lens : List ℕ) (count : ℕ) :
   pub fit : (i : ℕ) → i < count → getD lens i 0 ≤ 64
   pub reads : All ReadHolds (rowsOf rows lens count)
 
+-- the table holds the reads rs, in its first count rows
+pub record Leaves (rows : List (List ℕ)) (lens : List ℕ) (count : ℕ) (rs : List (List ℕ)) : Type 0 where
+  pub table : TableHolds rows lens count
+  pub reads : rowsOf rows lens count ≡ rs
+
 -- one of the first i reads, from the j-th on, holds the read in row i
 unfoldable pub heldFrom : List (List ℕ) → List ℕ → ℕ → ℕ → Bool
 heldFrom rows lens i j = someHolds (drop j (rowsOf rows lens i)) (rowAt rows lens i)

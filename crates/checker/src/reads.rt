@@ -6,7 +6,7 @@ ghost use Prim.Native.Nat.{ℕ, suc, _+_, _-_, _<_, _≤_};
 ghost use lib.ListN.{length, getD, take, drop};
 ghost use Rattle.mathematics.specs.Lists.{holds};
 ghost use Rattle.mathematics.specs.Prepare.{dropParts, overlap as overlapOf, longer, longestWith, longest as longestOf, joinAt, prepare};
-ghost use Rattle.checker.specs.ReadTable.{rowAt, rowsOf, runs, heldFrom, longerAt, longerFrom, gone, Marks, meeting, withFrom, allFrom, RowHolds, TableHolds, Place};
+ghost use Rattle.checker.specs.ReadTable.{rowAt, rowsOf, runs, Leaves, heldFrom, longerAt, longerFrom, gone, Marks, meeting, withFrom, allFrom, RowHolds, TableHolds, Place};
 
 // A pair of reads, by their rows, and the length of their overlap.
 pub struct Meeting {
@@ -176,4 +176,40 @@ fn is_gone(rows: &[[u8; 64]; 16], lens: &[usize; 16], count: usize, i: usize) ->
         return true;
     }
     in_later(rows, lens, count, i)
+}
+
+// Moves the reads without a mark up to the front; gives how many they are.
+fn move_up(
+    rows: &mut [[u8; 64]; 16],
+    lens: &mut [usize; 16],
+    count: usize,
+    marks: &[bool; 16],
+) -> usize
+    requires table { ⌜ TableHolds (now rows) (now lens) count ⌝ }
+    requires marked { ⌜ Marks (now rows) (now lens) count (now marks) ⌝ }
+    ensures { λ r. ⌜ Leaves (now (rows .exit)) (now (lens .exit)) r (dropParts [] (rowsOf (now (rows .entry)) (now (lens .entry)) count)) ⌝ }
+{
+    let mut w = 0;
+    let mut i = 0;
+    while i < count {
+        if marks[i] {
+            i += 1;
+        } else {
+            let row = rows[i];
+            rows[w] = row;
+            lens[w] = lens[i];
+            w += 1;
+            i += 1;
+        }
+    }
+    w
+}
+
+// Drops each read that is a consecutive part of another; of equal reads the lowest numbered stays. Gives how many reads are left.
+fn drop_parts(rows: &mut [[u8; 64]; 16], lens: &mut [usize; 16], count: usize) -> usize
+    requires { ⌜ TableHolds (now rows) (now lens) count ⌝ }
+    ensures { λ r. ⌜ Leaves (now (rows .exit)) (now (lens .exit)) r (dropParts [] (rowsOf (now (rows .entry)) (now (lens .entry)) count)) ⌝ }
+{
+    let gone = marks(rows, lens, count);
+    move_up(rows, lens, count, &gone)
 }
