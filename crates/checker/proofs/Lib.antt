@@ -3,3 +3,4 @@ pub mod TableLaws
 pub mod OverlapLaws
 pub mod TableRows
 pub mod DropLaws
+pub mod LongestLaws

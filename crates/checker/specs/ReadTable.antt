@@ -2,11 +2,11 @@
 use Prim.Native.Nat.{ℕ, zero, suc, _+_, _≤_, _<_}
 use mathlib.Core.Path.{_≡_}
 use mathlib.Core.List.{List, [], _∷_}
-use mathlib.Core.Bool.{Bool, true, false, _&&_, _||_}
-use lib.Dec.{ltb}
+use mathlib.Core.Bool.{Bool, true, false, cond, _&&_, _||_}
+use lib.Dec.{ltb, eqb}
 use lib.ListN.{length, getD, take, drop}
 use Rattle.mathematics.specs.Lists.{All, begins, holds, someHolds}
-use Rattle.mathematics.specs.Prepare.{someLonger, Meeting, longestWith, longestFrom}
+use Rattle.mathematics.specs.Prepare.{someLonger, overlap, Meeting, longer, longestWith, longestFrom}
 use Rattle.checker.specs.declared.reads.Meeting.{Meeting as Found}
 
 -- the read in row i
@@ -81,6 +81,11 @@ Marks rows lens count marks = (k : ℕ) → k < count → getD marks k false ≡
 -- the struct's value as the mathematics' pair of reads
 abbrev pub meeting : Found → Meeting
 meeting p = record { length = p .length; i = p .i; j = p .j }
+
+-- the better of best and the pair of the rows i and j
+unfoldable pub nextAt : List (List ℕ) → List ℕ → ℕ → ℕ → Meeting → Meeting
+nextAt rows lens i j best =
+    cond (eqb i j) best (longer best (record { length = overlap (rowAt rows lens i) (rowAt rows lens j); i = i; j = j }))
 
 -- the longest with the read in row i, among the count reads from the j-th on, and best
 unfoldable pub withFrom : List (List ℕ) → List ℕ → ℕ → ℕ → ℕ → Meeting → Meeting

@@ -5,8 +5,8 @@ ghost use mathlib.Core.Bool.{Bool, true, false, cond};
 ghost use Prim.Native.Nat.{ℕ, suc, _+_, _-_, _<_, _≤_};
 ghost use lib.ListN.{length, getD, take, drop};
 ghost use Rattle.mathematics.specs.Lists.{holds};
-ghost use Rattle.mathematics.specs.Prepare.{dropParts, overlap as overlapOf, longer, longestWith, longest as longestOf, joinAt, prepare};
-ghost use Rattle.checker.specs.ReadTable.{rowAt, rowsOf, runs, Leaves, heldFrom, longerAt, longerFrom, gone, Marks, meeting, withFrom, allFrom, RowHolds, TableHolds, Place};
+ghost use Rattle.mathematics.specs.Prepare.{dropParts, overlap as overlapOf, longest as longestOf, joinAt, prepare};
+ghost use Rattle.checker.specs.ReadTable.{rowAt, rowsOf, runs, Leaves, heldFrom, longerAt, longerFrom, gone, Marks, meeting, nextAt, withFrom, RowHolds, TableHolds, Place};
 
 // A pair of reads, by their rows, and the length of their overlap.
 pub struct Meeting {
@@ -212,4 +212,65 @@ fn drop_parts(rows: &mut [[u8; 64]; 16], lens: &mut [usize; 16], count: usize) -
 {
     let gone = marks(rows, lens, count);
     move_up(rows, lens, count, &gone)
+}
+
+// The longer of best and the overlap of the reads of rows i and j; best where they tie, or where i is j.
+fn longer_of(
+    rows: &[[u8; 64]; 16],
+    lens: &[usize; 16],
+    i: usize,
+    j: usize,
+    best: Meeting,
+) -> Meeting
+    requires read_i { ⌜ RowHolds (now rows) (now lens) i ⌝ }
+    requires read_j { ⌜ RowHolds (now rows) (now lens) j ⌝ }
+    ensures { λ r. ⌜ meeting r ≡ nextAt (now (rows .entry)) (now (lens .entry)) i j (meeting best) ⌝ }
+{
+    if i == j {
+        return best;
+    }
+    let n = overlap(rows, lens, i, j);
+    if best.length < n {
+        return Meeting { length: n, i, j };
+    }
+    best
+}
+
+// The longest overlap with the read of row i as the first of the pair, or best.
+fn longest_with(
+    rows: &[[u8; 64]; 16],
+    lens: &[usize; 16],
+    count: usize,
+    i: usize,
+    best: Meeting,
+) -> Meeting
+    requires table { ⌜ TableHolds (now rows) (now lens) count ⌝ }
+    requires inside { ⌜ i < count ⌝ }
+    ensures { λ r. ⌜ meeting r ≡ withFrom (now (rows .entry)) (now (lens .entry)) count i 0 (meeting best) ⌝ }
+{
+    let mut found = best;
+    let mut j = 0;
+    while j < count {
+        found = longer_of(rows, lens, i, j, found);
+        j += 1;
+    }
+    found
+}
+
+// The pair with the longest overlap; of several the lowest i, then the lowest j. Its length is 0 where no two reads overlap.
+fn longest(rows: &[[u8; 64]; 16], lens: &[usize; 16], count: usize) -> Meeting
+    requires { ⌜ TableHolds (now rows) (now lens) count ⌝ }
+    ensures { λ r. ⌜ meeting r ≡ longestOf (rowsOf (now (rows .entry)) (now (lens .entry)) count) ⌝ }
+{
+    let mut found = Meeting {
+        length: 0,
+        i: 0,
+        j: 0,
+    };
+    let mut i = 0;
+    while i < count {
+        found = longest_with(rows, lens, count, i, found);
+        i += 1;
+    }
+    found
 }
