@@ -16,3 +16,9 @@ pub mod ThenLaws
 pub mod GraphReads
 pub mod GraphFacts
 pub mod Lookup
+pub mod TableRows
+pub mod DropLaws
+pub mod LongestLaws
+pub mod JoinLaws
+pub mod JoinedRead
+pub mod PrepareLaws
