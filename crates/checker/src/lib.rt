@@ -7,8 +7,8 @@ pub mod reader;
 
 ghost use mathlib.Core.Path.{_≡_};
 ghost use Rattle.checker.specs.GraphFaults.{refusal};
-ghost use Rattle.checker.specs.Limits.{maxVertices, maxArcs, maxReads, maxOpening, maxCost, maxDemand, minReadLength, maxReadLength, longestGraph, maxPaths, maxWeight, maxMark, longestAnswer};
-ghost use Rattle.checker.specs.Empty.{emptyHeader, emptyGraph, emptyAnswer};
+ghost use Rattle.checker.specs.Limits.{maxVertices, maxArcs, maxReads, maxOpening, maxCost, maxDemand, minReadLength, maxReadLength, longestGraph};
+ghost use Rattle.checker.specs.Empty.{emptyHeader, emptyGraph};
 
 // What a call answers where an input may be turned down: the refusal's number and its place; both are 0 where nothing is refused.
 pub struct Verdict {
@@ -100,31 +100,6 @@ impl Graph {
         let header = Header::empty();
         let first = [0; Graph::MAX_VERTICES + 1];
         Graph { header, first }
-    }
-}
-
-// The values of an answer form's header.
-pub struct Answer {
-    pub paths: usize,
-    pub price: usize,
-}
-
-impl Answer {
-    // Document 01, "Numbers allowed", "In an answer".
-    pub const MAX_PATHS: usize = 464;
-
-    pub const MAX_WEIGHT: usize = 320_000_016;
-
-    pub const MARK_LIMIT: usize = 2_000_000_000;
-
-    pub const LONGEST: usize = 32_543;
-
-    // The answer with nothing in it. The limits are the definitions' own.
-    pub fn empty() -> Answer
-        ensures { λ r. ⌜ r ≡ emptyAnswer ⌝ }
-        ensures limits { λ r. do ⌜ ((← ⟦Answer::MAX_PATHS⟧ .entry) ≡ maxPaths) × ((← ⟦Answer::MAX_WEIGHT⟧ .entry) ≡ maxWeight) × ((← ⟦Answer::MARK_LIMIT⟧ .entry) ≡ maxMark) × ((← ⟦Answer::LONGEST⟧ .entry) ≡ longestAnswer) ⌝ }
-    {
-        Answer { paths: 0, price: 0 }
     }
 }
 
