@@ -3,3 +3,4 @@ pub mod Scan
 pub mod HeaderLaws
 pub mod RecordLaws
 pub mod AnswerLaws
+pub mod AnswerReads

@@ -7,6 +7,8 @@ ghost use mathlib.Core.Path.{_≡_};
 ghost use Prim.Native.Nat.{_+_, _*_, _<_, _≤_};
 ghost use lib.ListN.{length};
 ghost use lib.IntN.{subℕ};
+ghost use mathlib.Core.Bool.{_||_};
+ghost use Rattle.mathematics.specs.Lists.{begins, holds};
 ghost use Rattle.checker.specs.Bytes.{part};
 ghost use Rattle.checker.specs.GraphFaults.{nothingRefused};
 ghost use Rattle.checker.specs.AnswerForm.{signed32, inMarkAt};
@@ -135,8 +137,8 @@ fn comes_before(t: &[u8], a: usize, la: usize, b: usize, lb: usize) -> bool
         if lb <= i {
             return false;
         }
-        let x = wide(t[a + i]);
-        let y = wide(t[b + i]);
+        let x = t[a + i];
+        let y = t[b + i];
         if x < y {
             return true;
         }
@@ -146,4 +148,53 @@ fn comes_before(t: &[u8], a: usize, la: usize, b: usize, lb: usize) -> bool
         i += 1;
     }
     i < lb
+}
+
+// Whether the lb bytes of t at b begin with the la bytes of s at a.
+fn begins_at(s: &[u8], a: usize, la: usize, t: &[u8], b: usize, lb: usize) -> bool
+    requires { ⌜ (a + la ≤ length (now s)) × (b + lb ≤ length (now t)) × (la ≤ lb) ⌝ }
+    ensures { λ r. ⌜ r ≡ begins (part (now (s .entry)) a la) (part (now (t .entry)) b lb) ⌝ }
+{
+    let mut i = 0;
+    while i < la {
+        let x = s[a + i];
+        let y = t[b + i];
+        if x != y {
+            return false;
+        }
+        i += 1;
+    }
+    true
+}
+
+// Whether the lb bytes of t at b hold the la bytes of s at a consecutively. Only where the first is met the others are compared.
+fn holds_read(s: &[u8], a: usize, la: usize, t: &[u8], b: usize, lb: usize) -> bool
+    requires { ⌜ (a + la ≤ length (now s)) × (b + lb ≤ length (now t)) × (0 < la) × (la < 256) ⌝ }
+    ensures { λ r. ⌜ r ≡ holds (part (now (t .entry)) b lb) (part (now (s .entry)) a la) ⌝ }
+{
+    let first = s[a];
+    let mut j = 0;
+    while j + la <= lb {
+        let y = t[b + j];
+        if y != first {
+            j += 1;
+            continue;
+        }
+        if begins_at(s, a, la, t, b + j, lb - j) {
+            return true;
+        }
+        j += 1;
+    }
+    false
+}
+
+// Whether a read that was met by a path before, or not, is met now: the path is looked at only where the read was not.
+fn met_now(met: bool, s: &[u8], a: usize, la: usize, t: &[u8], b: usize, lb: usize) -> bool
+    requires { ⌜ (a + la ≤ length (now s)) × (b + lb ≤ length (now t)) × (0 < la) × (la < 256) ⌝ }
+    ensures { λ r. ⌜ r ≡ (met || holds (part (now (t .entry)) b lb) (part (now (s .entry)) a la)) ⌝ }
+{
+    if met {
+        return true;
+    }
+    holds_read(s, a, la, t, b, lb)
 }
