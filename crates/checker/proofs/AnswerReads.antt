@@ -1,16 +1,22 @@
 -- Which reads a path of an answer holds: laws for the loops that compare a read with a path, and for the loop over the reads.
 use Prim.Native.Nat.{ℕ, zero, suc, _+_, _-_, _*_, _<_, _≤_, min}
-use native.Mathlib.Nat.{add-zero, sub-zero}
+use native.Mathlib.Nat.{le-refl, zero-add, add-zero, sub-zero}
 use native.Mathlib.Numerals.{add-one}
+use native.Mathlib.Decide.{decLt}
 use native.Mathlib.Omega.{arith}
 use mathlib.Core.Path.{_≡_, refl, sym, ap, _∙_}
 use mathlib.Core.List.{List, [], _∷_}
 use mathlib.Core.Bool.{Bool, true, false, _&&_, _||_}
 use lib.Dec.{eqb}
-use lib.ListN.{length, getD, take, drop, length-take, length-drop}
+use lib.ListN.{length, getD, take, drop, set, length-take, length-drop, length-set}
+use lib.Seq.{getD-set-same, getD-set-other}
 use borrow.Author.Tests.{eq-eqb, ne-eqb}
 use Rattle.mathematics.specs.Lists.{begins, holds}
 use Rattle.checker.specs.Bytes.{byte, part}
+use Rattle.checker.specs.GraphForm.{readCount, firstReadAt, readLength, readVertices, readEnd}
+use Rattle.checker.specs.GraphOf.{readsFrom}
+use Rattle.checker.specs.GraphReads.{Reads, ReadRight, ReadsRight}
+use Rattle.checker.specs.Tallies.{readOf, Marked}
 use Rattle.checker.proofs.AnswerLaws.{part-cons}
 
 and-false : (x : Bool) → (x && false) ≡ false
@@ -98,3 +104,58 @@ module _ {s : List ℕ} {a la : ℕ} {t : List ℕ} {b lb j : ℕ} (inv : HoldsL
       sym
       (inv .decide
       ∙ holds-longer (part t (b + j) (lb - j)) (part s a la) (rw (part-length s a la (omega arith), part-length t (b + j) (lb - j) (omega arith)) (omega arith)))
+
+-- The reads before r are marked, those from r on stand from at on and are as they were.
+pub record ReadsLeft (s p : List ℕ) (before met : List Bool) (r at : ℕ) : Type 0 where
+  pub within : (r ≤ readCount s) × (readCount s ≤ 16) × (length met ≡ 16)
+  pub right : ReadsRight s (readCount s - r) at
+  pub rest : (k : ℕ) → readOf s (r + k) ≡ getD (readsFrom s (readCount s - r) at) k []
+  pub done : (k : ℕ) → k < r → getD met k false ≡ (getD before k false || holds p (readOf s k))
+  pub kept : (k : ℕ) → r ≤ k → getD met k false ≡ getD before k false
+
+pub reads-begin : (s p : List ℕ) (met : List Bool) (at : ℕ) → Reads s → length met ≡ 16 → at ≡ firstReadAt s → ReadsLeft s p met met 0 at
+reads-begin s p met at h long e =
+    record {
+      within = omega (arith, h .arcs .header .few-reads);
+      right = simp (sub-zero, e) (h .reads);
+      rest = λ k. simp (sub-zero, zero-add, e);
+      done = λ k l. absurd (omega arith);
+      kept = λ k l. refl;
+    }
+
+module _ {s p : List ℕ} {before met : List Bool} {r at : ℕ} (inv : ReadsLeft s p before met r at) where
+  module _ (more : r < readCount s) where
+    split : readCount s - r ≡ suc (readCount s - (r + 1))
+    split = omega arith
+
+    -- the next read's record is whole
+    pub reads-next : ReadRight s at
+    reads-next = (rw split at (inv .right)) .0
+
+    this-read : readOf s r ≡ readVertices s at
+    this-read = rw (add-zero, split) at (inv .rest 0)
+
+    later-read : (k : ℕ) → readOf s (r + 1 + k) ≡ getD (readsFrom s (readCount s - (r + 1)) (readEnd s at)) k []
+    later-read k =
+        let e : r + suc k ≡ r + 1 + k = omega arith in
+        rw (e, split) at (inv .rest (suc k))
+
+    module _ (m : Bool) (la : ℕ) (long : la ≡ readLength s at) (e : m ≡ (getD met r false || holds p (part s (at + 1) la))) where
+      marked : (k : ℕ) → k < r + 1 → Dec (k < r) → getD (set met r m) k false ≡ (getD before k false || holds p (readOf s k))
+      marked k l (yes h) = getD-set-other met r k m false (omega arith) ∙ inv .done k h
+      marked k l (no h) =
+          let same : k ≡ r = omega arith in
+          rw (same, getD-set-same met r m false (omega arith), e, inv .kept r (le-refl r), this-read, long)
+
+      pub reads-turn : ReadsLeft s p before (set met r m) (r + 1) (at + 1 + la)
+      reads-turn =
+          record {
+            within = simp length-set (omega arith);
+            right = rw long ((rw split at (inv .right)) .1);
+            rest = λ k. rw long (later-read k);
+            done = λ k l. marked k l (decLt k r);
+            kept = λ k l. getD-set-other met r k m false (omega arith) ∙ inv .kept k (omega arith);
+          }
+
+  pub reads-end : readCount s ≤ r → Marked s p before met
+  reads-end h = record { long = inv .within .2; met = λ k l. inv .done k (omega arith) }

@@ -1,4 +1,5 @@
 // Reading the answer form beside a graph form that reads: numbers 11 to 18.
+use crate::Graph;
 use crate::Verdict;
 use crate::bytes::be16;
 use crate::bytes::be32;
@@ -11,6 +12,9 @@ ghost use mathlib.Core.Bool.{_||_};
 ghost use Rattle.mathematics.specs.Lists.{begins, holds};
 ghost use Rattle.checker.specs.Bytes.{part};
 ghost use Rattle.checker.specs.GraphFaults.{nothingRefused};
+ghost use Rattle.checker.specs.Limits.{maxReads};
+ghost use Rattle.checker.specs.GraphReads.{Reads};
+ghost use Rattle.checker.specs.Tallies.{Marked};
 ghost use Rattle.checker.specs.AnswerForm.{signed32, inMarkAt};
 ghost use Rattle.checker.specs.AnswerFaults.{answerHeaderVerdict, markFault, marksVerdict, listBefore};
 
@@ -197,4 +201,20 @@ fn met_now(met: bool, s: &[u8], a: usize, la: usize, t: &[u8], b: usize, lb: usi
         return true;
     }
     holds_read(s, a, la, t, b, lb)
+}
+
+// Marks the reads that the path of lb vertices at b holds. Reads are walked by their records.
+fn mark_reads(s: &[u8], t: &[u8], b: usize, lb: usize, met: &mut [bool; 16])
+    requires { ⌜ Reads (now s) × (b + lb ≤ length (now t)) × (length (now met) ≡ maxReads) ⌝ }
+    ensures { λ r. ⌜ Marked (now (s .entry)) (part (now (t .entry)) b lb) (now (met .entry)) (now (met .exit)) ⌝ }
+{
+    let count = wide(s[8]);
+    let mut at = Graph::HEADER + Graph::VERTEX * wide(s[5]) + Graph::ARC * be16(s, 6);
+    let mut r = 0;
+    while r < count {
+        let la = wide(s[at]);
+        met[r] = met_now(met[r], s, at + 1, la, t, b, lb);
+        at = at + 1 + la;
+        r += 1;
+    }
 }
