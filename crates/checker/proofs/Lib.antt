@@ -4,3 +4,4 @@ pub mod HeaderLaws
 pub mod RecordLaws
 pub mod AnswerLaws
 pub mod AnswerReads
+pub mod ArcLaws

@@ -11,6 +11,7 @@ use Rattle.mathematics.specs.Cover.{oneIf}
 use Rattle.checker.specs.declared.Found.{Found}
 use Rattle.checker.specs.declared.Found.the-variants.{At, Missing}
 use Rattle.checker.specs.Limits.{maxVertices}
+use Rattle.checker.specs.GraphForm.{vertexCount, arcCount}
 use Rattle.checker.specs.GraphOf.{arcsOf}
 use Rattle.checker.specs.GraphReads.{ArcsRight}
 
@@ -27,6 +28,12 @@ arcNumber arcs u v = numberFrom arcs u v 0
 unfoldable pub tailsBelow : List (Arc ℤ) → ℕ → ℕ
 tailsBelow [] u = 0
 tailsBelow (a ∷ arcs) u = oneIf (ltb (a .tail) u) + tailsBelow arcs u
+
+-- n and count are the numbers of vertices and arcs of a form whose arcs are right
+pub record AsCounted (s : List ℕ) (n count : ℕ) : Type 0 where
+  pub right : ArcsRight s
+  pub vertices : n ≡ vertexCount s
+  pub arcs : count ≡ arcCount s
 
 -- the table of first arcs of a form whose arcs are right: at u the number of arcs whose tail is below u, which is the number of u's own first arc
 pub record ArcTable (s first : List ℕ) : Type 0 where

@@ -11,6 +11,12 @@ pub fn wide(b: u8) -> usize
     b as usize
 }
 
+pub fn wide16(b: u16) -> usize
+    ensures { λ r. ⌜ (r ≡ b) × (r < 65536) ⌝ }
+{
+    b as usize
+}
+
 pub fn be16(s: &[u8], at: usize) -> usize
     requires { ⌜ at + 1 < length (now s) ⌝ }
     ensures { λ r. ⌜ r ≡ number16 (now (s .entry)) at ⌝ }

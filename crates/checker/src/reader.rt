@@ -1,14 +1,20 @@
 // The graph reader.
+use crate::Found;
 use crate::Graph;
 use crate::Verdict;
 use crate::bytes::be16;
 use crate::bytes::be32;
 use crate::bytes::wide;
+use crate::bytes::wide16;
 ghost use mathlib.Core.Path.{_≡_};
 ghost use Prim.Native.Nat.{_+_, _<_, _≤_};
 ghost use lib.ListN.{length};
 ghost use Rattle.checker.specs.GraphFaults.{headerVerdict, vertexFault, arcFault, firstFault};
 ghost use Rattle.checker.specs.GraphForm.{vertexAt, vertexCount, arcAt};
+ghost use Rattle.checker.specs.GraphOf.{arcsOf};
+ghost use Rattle.checker.specs.GraphReads.{ArcsRight};
+ghost use Rattle.checker.specs.ArcTable.{AsCounted, ArcTable, tailsBelow, arcNumber};
+ghost use Rattle.checker.specs.Limits.{maxVertices};
 
 // What is wrong with the header: 1, 2, 3 or 4.
 fn header_verdict(s: &[u8]) -> Verdict
@@ -121,4 +127,55 @@ fn arcs_verdict(s: &[u8], n: usize, count: usize) -> Verdict
         a += 1;
     }
     Verdict::new(0, 0)
+}
+
+// From arc a on, the number of arcs whose tail is below u, where no arc before a has a higher one.
+fn arcs_below(s: &[u8], n: usize, count: usize, u: usize, from: usize) -> usize
+    requires { ⌜ AsCounted (now s) n count × (from ≤ tailsBelow (arcsOf (now s)) u) ⌝ }
+    ensures { λ r. ⌜ r ≡ tailsBelow (arcsOf (now (s .entry))) u ⌝ }
+{
+    let base = Graph::HEADER + Graph::VERTEX * n;
+    let mut a = from;
+    while a < count {
+        if u <= wide(s[base + Graph::ARC * a]) {
+            return a;
+        }
+        a += 1;
+    }
+    a
+}
+
+// The table of first arcs: at u the number of arcs whose tail is below u. Arcs are passed once, since they ascend by tail.
+pub fn first_arcs(s: &[u8]) -> [u16; 65]
+    requires { ⌜ ArcsRight (now s) ⌝ }
+    ensures { λ r. ⌜ ArcTable (now (s .entry)) r ⌝ }
+{
+    let n = wide(s[5]);
+    let count = be16(s, 6);
+    let mut first = [0u16; 65];
+    let mut below = 0;
+    let mut u = 0;
+    while u <= Graph::MAX_VERTICES {
+        below = arcs_below(s, n, count, u, below);
+        first[u] = below as u16;
+        u += 1;
+    }
+    first
+}
+
+// The number of the arc from u to v: a look at the arcs of tail u alone.
+pub fn find_arc(s: &[u8], first: &[u16; 65], u: usize, v: usize) -> Found
+    requires { ⌜ ArcTable (now s) (now first) × (u < maxVertices) ⌝ }
+    ensures { λ r. ⌜ r ≡ arcNumber (arcsOf (now (s .entry))) u v ⌝ }
+{
+    let base = Graph::HEADER + Graph::VERTEX * wide(s[5]);
+    let end = wide16(first[u + 1]);
+    let mut a = wide16(first[u]);
+    while a < end {
+        if wide(s[base + Graph::ARC * a + 1]) == v {
+            return Found::At(a);
+        }
+        a += 1;
+    }
+    Found::Missing
 }
