@@ -4,4 +4,5 @@ pub mod HeaderLaws
 pub mod RecordLaws
 pub mod AnswerLaws
 pub mod AnswerReads
+pub mod AnswerWalk
 pub mod ArcLaws

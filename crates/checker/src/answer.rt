@@ -1,20 +1,27 @@
 // Reading the answer form beside a graph form that reads: numbers 11 to 18.
+use crate::Found;
 use crate::Graph;
 use crate::Verdict;
 use crate::bytes::be16;
 use crate::bytes::be32;
 use crate::bytes::wide;
+use crate::reader::find_arc;
 ghost use mathlib.Core.Path.{_≡_};
 ghost use Prim.Native.Nat.{_+_, _*_, _<_, _≤_};
+ghost use mathlib.Core.List.{_∷_};
 ghost use lib.ListN.{length};
 ghost use lib.IntN.{subℕ};
 ghost use mathlib.Core.Bool.{_||_};
 ghost use Rattle.mathematics.specs.Lists.{begins, holds};
+ghost use Rattle.mathematics.specs.Graph.{isStart, isEnd};
 ghost use Rattle.checker.specs.Bytes.{part};
+ghost use Rattle.checker.specs.GraphForm.{vertexCount, arcCount, flags, arcAt, arcCost};
+ghost use Rattle.checker.specs.GraphOf.{graphOf};
 ghost use Rattle.checker.specs.GraphFaults.{nothingRefused};
-ghost use Rattle.checker.specs.Limits.{maxReads};
+ghost use Rattle.checker.specs.Limits.{maxReads, maxCost};
 ghost use Rattle.checker.specs.GraphReads.{Reads};
-ghost use Rattle.checker.specs.Tallies.{Marked};
+ghost use Rattle.checker.specs.ArcTable.{ArcTable};
+ghost use Rattle.checker.specs.Tallies.{Marked, Room, Walked, goesOnTo, onward};
 ghost use Rattle.checker.specs.AnswerForm.{signed32, inMarkAt};
 ghost use Rattle.checker.specs.AnswerFaults.{answerHeaderVerdict, markFault, marksVerdict, listBefore};
 
@@ -217,4 +224,70 @@ fn mark_reads(s: &[u8], t: &[u8], b: usize, lb: usize, met: &mut [bool; 16])
         at = at + 1 + la;
         r += 1;
     }
+}
+
+// What walking along a path gives: whether it is a path of the graph, and the costs of its arcs.
+pub struct Walk {
+    pub ok: bool,
+    pub cost: usize,
+}
+
+// The flag byte of vertex v.
+fn flag_of(s: &[u8], v: usize) -> usize
+    requires { ⌜ Reads (now s) × (v < vertexCount (now s)) ⌝ }
+    ensures { λ r. ⌜ r ≡ flags (now (s .entry)) v ⌝ }
+{
+    wide(s[Graph::HEADER + Graph::VERTEX * v])
+}
+
+fn is_start(s: &[u8], v: usize) -> bool
+    requires { ⌜ Reads (now s) × (v < vertexCount (now s)) ⌝ }
+    ensures { λ r. ⌜ r ≡ isStart (graphOf (now (s .entry))) v ⌝ }
+{
+    flag_of(s, v) % 2 == 1
+}
+
+fn is_end(s: &[u8], v: usize) -> bool
+    requires { ⌜ Reads (now s) × (v < vertexCount (now s)) ⌝ }
+    ensures { λ r. ⌜ r ≡ isEnd (graphOf (now (s .entry))) v ⌝ }
+{
+    flag_of(s, v) / 2 == 1
+}
+
+// The cost of arc k.
+fn cost_of(s: &[u8], n: usize, k: usize) -> usize
+    requires { ⌜ Reads (now s) × (n ≡ vertexCount (now s)) × (k < arcCount (now s)) ⌝ }
+    ensures { λ r. ⌜ r ≡ arcCost (now (s .entry)) (arcAt (now (s .entry)) k) ⌝ }
+    ensures low { λ r. ⌜ r ≤ maxCost ⌝ }
+{
+    be32(s, Graph::HEADER + Graph::VERTEX * n + Graph::ARC * k + 2)
+}
+
+// Walks on from vertex u, which is counted already, along lb vertices at b: one look for an arc with each.
+fn walk_on(s: &[u8], first: &[u16; 65], t: &[u8], b: usize, lb: usize, from: usize, weight: usize, vertex_totals: &mut [usize; 64], arc_totals: &mut [usize; 256]) -> Walk
+    requires { ⌜ Reads (now s) × ArcTable (now s) (now first) × (from < vertexCount (now s)) ⌝ }
+    requires { ⌜ (lb ≤ 63) × (b + lb ≤ length (now t)) × Room (now s) (now «vertex_totals») (now «arc_totals») weight ⌝ }
+    ensures { λ r. ⌜ Walked (now (s .entry)) (goesOnTo (now (s .entry)) from (part (now (t .entry)) b lb)) (onward from (part (now (t .entry)) b lb)) (from ∷ part (now (t .entry)) b lb) weight (now («vertex_totals» .entry)) (now («vertex_totals» .exit)) (now («arc_totals» .entry)) (now («arc_totals» .exit)) (r .ok) (r .cost) ⌝ }
+{
+    let n = wide(s[5]);
+    let mut u = from;
+    let mut cost = 0;
+    let mut j = 0;
+    while j < lb {
+        let v = wide(t[b + j]);
+        if n <= v {
+            return Walk { ok: false, cost: 0 };
+        }
+        let found = find_arc(s, first, u, v);
+        let Found::At(k) = found else {
+            return Walk { ok: false, cost: 0 };
+        };
+        arc_totals[k] = arc_totals[k] + weight;
+        vertex_totals[v] = vertex_totals[v] + weight;
+        cost += cost_of(s, n, k);
+        u = v;
+        j += 1;
+    }
+    let ok = is_end(s, u);
+    Walk { ok, cost }
 }
