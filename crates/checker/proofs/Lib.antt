@@ -6,3 +6,8 @@ pub mod AnswerLaws
 pub mod AnswerReads
 pub mod AnswerWalk
 pub mod ArcLaws
+pub mod WalkLaws
+pub mod ReadLaws
+pub mod RightLaws
+pub mod ThenLaws
+pub mod GraphReads

@@ -1,16 +1,16 @@
 -- What is wrong with one record of a graph form: a law for each way through the function that tests it.
 use Prim.Native.Nat.{ℕ, zero, suc, _+_, _-_, _*_, _<_, _≤_}
 use native.Mathlib.Omega.{arith}
-use mathlib.Core.Path.{_≡_, refl, sym, _∙_}
+use mathlib.Core.Path.{_≡_, refl, sym, ap}
 use mathlib.Core.List.{List}
-use mathlib.Core.Bool.{Bool, true, false, _&&_, _||_}
+use mathlib.Core.Bool.{Bool, true, false, cond, _&&_, _||_}
 use lib.ListN.{length}
 use lib.Dec.{ltb, eqb}
 use borrow.Author.Tests.{lt-ltb, le-ltb, eq-eqb, ne-eqb, ltb-false, eqb-true}
 use Rattle.checker.specs.Bytes.{byte, be16}
 use Rattle.checker.specs.Limits.{maxDemand, maxCost}
 use Rattle.checker.specs.GraphForm.{vertexLength, vertexAt, flags, vertexDemand, arcLength, arcAt, arcCost, arcDemand, arcTail, arcHead, vertexCount}
-use Rattle.checker.specs.GraphFaults.{vertexFault, arcFault}
+use Rattle.checker.specs.GraphFaults.{vertexFault, ascends, arcFault}
 
 module _ (s : List ℕ) (v : ℕ) where
   pub vertex-short : length s < vertexAt s v + vertexLength → 5 ≡ vertexFault s v
@@ -66,9 +66,12 @@ module _ (s : List ℕ) (at : ℕ) where
           arc-outside h = simp (le-ltb _ _ whole, le-ltb _ _ cost, le-ltb _ _ demand, lt-ltb _ _ rises, le-ltb _ _ h)
 
           module _ (inside : arcHead s at < vertexCount s) where
-            pub arc-first : at ≡ arcAt s 0 → 0 ≡ arcFault s at
+            pub arc-last : ascends s at ≡ true → 0 ≡ arcFault s at
             unfolding arcFault
-            arc-first h = simp (le-ltb _ _ whole, le-ltb _ _ cost, le-ltb _ _ demand, lt-ltb _ _ rises, lt-ltb _ _ inside, eq-eqb _ _ h)
+            arc-last h = simp (le-ltb _ _ whole, le-ltb _ _ cost, le-ltb _ _ demand, lt-ltb _ _ rises, lt-ltb _ _ inside) (ap (λ b. cond b 0 6) (sym h))
+
+            pub arc-first : at ≡ arcAt s 0 → 0 ≡ arcFault s at
+            arc-first h = arc-last (simp (eq-eqb _ _ h))
 
             module _ (later : at ≡ arcAt s 0 → ⊥) (bytes : (k : ℕ) → byte s k < 256) where
               pub arc-repeats : be16 s at ≤ be16 s (at - arcLength) → 6 ≡ arcFault s at
@@ -76,5 +79,5 @@ module _ (s : List ℕ) (at : ℕ) where
               arc-repeats h = simp (le-ltb _ _ whole, le-ltb _ _ cost, le-ltb _ _ demand, lt-ltb _ _ rises, lt-ltb _ _ inside, ne-eqb _ _ later, not-higher _ _ _ _ (bytes (at - arcLength + 1)) h _ refl)
 
               pub arc-right : be16 s (at - arcLength) < be16 s at → 0 ≡ arcFault s at
-              unfolding arcFault be16
-              arc-right h = simp (le-ltb _ _ whole, le-ltb _ _ cost, le-ltb _ _ demand, lt-ltb _ _ rises, lt-ltb _ _ inside, ne-eqb _ _ later, higher _ _ _ _ (bytes (at + 1)) h _ refl)
+              unfolding be16
+              arc-right h = arc-last (simp (ne-eqb _ _ later, higher _ _ _ _ (bytes (at + 1)) h _ refl))

@@ -2,11 +2,11 @@
 use Prim.Native.Nat.{ℕ, zero, suc, _+_, _≤_}
 use mathlib.Core.Path.{_≡_}
 use mathlib.Core.List.{List, [], _∷_}
-use mathlib.Core.Bool.{cond}
+use mathlib.Core.Bool.{Bool, cond, _&&_}
 use lib.Dec.{ltb}
 use lib.IntN.{ℤ}
 use lib.ListN.{getD}
-use Rattle.mathematics.specs.Graph.{Arc, joins}
+use Rattle.mathematics.specs.Graph.{Arc, joins, hasArc}
 use Rattle.mathematics.specs.Cover.{oneIf}
 use Rattle.checker.specs.declared.Found.{Found}
 use Rattle.checker.specs.declared.Found.the-variants.{At, Missing}
@@ -23,6 +23,10 @@ numberFrom (a ∷ arcs) u v k = cond (joins a u v) (At k) (numberFrom arcs u v (
 -- the number of the arc from u to v
 abbrev pub arcNumber : List (Arc ℤ) → ℕ → ℕ → Found
 arcNumber arcs u v = numberFrom arcs u v 0
+
+-- v is below n, and some arc goes from u to v
+unfoldable pub goesOn : ℕ → List (Arc ℤ) → ℕ → ℕ → Bool
+goesOn n arcs u v = ltb v n && hasArc arcs u v
 
 -- how many arcs have a tail below u
 unfoldable pub tailsBelow : List (Arc ℤ) → ℕ → ℕ

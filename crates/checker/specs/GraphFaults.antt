@@ -20,7 +20,7 @@ abbrev pub nothingRefused : Verdict
 nothingRefused = refusal 0 0
 
 -- the first faulty record decides: what comes after counts only where nothing was refused before
-abbrev pub then : Verdict → Verdict → Verdict
+unfoldable pub then : Verdict → Verdict → Verdict
 then first after = cond (eqb (first .number) 0) after first
 
 -- a fault's number, 0 for none, at its place; where there is none, what comes after

@@ -9,11 +9,12 @@ use crate::bytes::wide16;
 ghost use mathlib.Core.Path.{_≡_};
 ghost use Prim.Native.Nat.{_+_, _<_, _≤_};
 ghost use lib.ListN.{length};
-ghost use Rattle.checker.specs.GraphFaults.{headerVerdict, vertexFault, arcFault, firstFault};
-ghost use Rattle.checker.specs.GraphForm.{vertexAt, vertexCount, arcAt};
+ghost use Rattle.checker.specs.GraphFaults.{headerVerdict, vertexFault, arcFault, firstFault, walks, readFault, then, arcsVerdict, readsVerdict, graphVerdict};
+ghost use Rattle.checker.specs.GraphForm.{vertexAt, vertexCount, arcAt, readCount, firstReadAt};
 ghost use Rattle.checker.specs.GraphOf.{arcsOf};
-ghost use Rattle.checker.specs.GraphReads.{ArcsRight};
-ghost use Rattle.checker.specs.ArcTable.{AsCounted, ArcTable, tailsBelow, arcNumber};
+ghost use Rattle.checker.specs.GraphReads.{HeaderRight, ArcsRight};
+ghost use Rattle.checker.specs.ArcTable.{AsCounted, ArcTable, tailsBelow, arcNumber, goesOn};
+ghost use Rattle.checker.specs.Bytes.{part};
 ghost use Rattle.checker.specs.Limits.{maxVertices};
 
 // What is wrong with the header: 1, 2, 3 or 4.
@@ -178,4 +179,121 @@ pub fn find_arc(s: &[u8], first: &[u16; 65], u: usize, v: usize) -> Found
         a += 1;
     }
     Found::Missing
+}
+
+// Whether a walk may go on from vertex u to v: v is a vertex, and there is the arc.
+fn goes_on(s: &[u8], first: &[u16; 65], n: usize, u: usize, v: usize) -> bool
+    requires { ⌜ ArcTable (now s) (now first) × (n ≡ vertexCount (now s)) × (u < n) ⌝ }
+    ensures { λ r. ⌜ r ≡ goesOn (vertexCount (now (s .entry))) (arcsOf (now (s .entry))) u v ⌝ }
+{
+    if n <= v {
+        return false;
+    }
+    match find_arc(s, first, u, v) {
+        Found::At(_) => true,
+        Found::Missing => false,
+    }
+}
+
+// Whether count bytes of a form, from an offset on, are vertices of the graph s, each consecutive pair an arc.
+pub fn is_walk(s: &[u8], first: &[u16; 65], form: &[u8], at: usize, count: usize) -> bool
+    requires { ⌜ ArcTable (now s) (now first) × (1 ≤ count) × (at + count ≤ length (now form)) ⌝ }
+    ensures { λ r. ⌜ r ≡ walks (vertexCount (now (s .entry))) (arcsOf (now (s .entry))) (part (now (form .entry)) at count) ⌝ }
+{
+    let n = wide(s[5]);
+    let end = at + count;
+    let mut u = wide(form[at]);
+    if n <= u {
+        return false;
+    }
+    let mut i = at + 1;
+    while i < end {
+        let v = wide(form[i]);
+        if !goes_on(s, first, n, u, v) {
+            return false;
+        }
+        u = v;
+        i += 1;
+    }
+    true
+}
+
+// What is wrong with the read at an offset: 5, 7 or nothing.
+fn read_fault(s: &[u8], first: &[u16; 65], at: usize) -> usize
+    requires { ⌜ ArcTable (now s) (now first) ⌝ }
+    ensures { λ r. ⌜ r ≡ readFault (now (s .entry)) at ⌝ }
+{
+    if s.len() <= at {
+        return 5;
+    }
+    let count = wide(s[at]);
+    if count < Graph::MIN_READ {
+        return 7;
+    }
+    if Graph::MAX_READ < count {
+        return 7;
+    }
+    if s.len() < at + 1 + count {
+        return 5;
+    }
+    if !is_walk(s, first, s, at + 1, count) {
+        return 7;
+    }
+    0
+}
+
+// The first faulty one of count reads, the first of them at an offset; then the bytes that remain.
+fn reads_verdict(s: &[u8], first: &[u16; 65], count: usize, from: usize) -> Verdict
+    requires { ⌜ ArcTable (now s) (now first) ⌝ }
+    ensures { λ r. ⌜ r ≡ readsVerdict (now (s .entry)) count from ⌝ }
+{
+    let mut at = from;
+    let mut k = 0;
+    while k < count {
+        let fault = read_fault(s, first, at);
+        if fault != 0 {
+            return Verdict::new(fault, at);
+        }
+        at = at + 1 + wide(s[at]);
+        k += 1;
+    }
+    if at < s.len() {
+        return Verdict::new(5, at);
+    }
+    Verdict::new(0, 0)
+}
+
+// What the arcs, then the reads of a form with n vertices give, once its header is right.
+fn arcs_then_reads(s: &[u8], n: usize) -> Verdict
+    requires { ⌜ HeaderRight (now s) × (n ≡ vertexCount (now s)) ⌝ }
+    ensures { λ r. ⌜ r ≡ then (arcsVerdict (now (s .entry))) (readsVerdict (now (s .entry)) (readCount (now (s .entry))) (firstReadAt (now (s .entry)))) ⌝ }
+{
+    let m = be16(s, 6);
+    let arcs = arcs_verdict(s, n, m);
+    if arcs.number != 0 {
+        return arcs;
+    }
+    let first = first_arcs(s);
+    reads_verdict(
+        s,
+        &first,
+        wide(s[8]),
+        Graph::HEADER + Graph::VERTEX * n + Graph::ARC * m,
+    )
+}
+
+// Document 01, "Numbers returned when an input is turned down", 1 to 7: what reading the graph form gives.
+pub fn read_graph(s: &[u8]) -> Verdict
+    ensures { λ r. ⌜ r ≡ graphVerdict (now (s .entry)) ⌝ }
+{
+    let header = header_verdict(s);
+    if header.number != 0 {
+        return header;
+    }
+    let n = wide(s[5]);
+    let vertices = vertices_verdict(s, n);
+    if vertices.number != 0 {
+        return vertices;
+    }
+    arcs_then_reads(s, n)
 }
