@@ -2,11 +2,13 @@
 pub mod Scan
 pub mod HeaderLaws
 pub mod RecordLaws
+pub mod AnswerLaws
+pub mod AnswerReads
+pub mod AnswerWalk
 pub mod ArcLaws
 -- Laws that the proofs of functions cite.
 pub mod TableLaws
 pub mod OverlapLaws
-pub mod AnswerLaws
 pub mod CertifyLawsSlack
 pub mod CertifyLaws
 pub mod WalkLaws

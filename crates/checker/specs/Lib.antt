@@ -11,3 +11,4 @@ pub mod ArcTable
 pub mod ReadTable
 pub mod Certify
 pub mod Empty
+pub mod Tallies

@@ -1,14 +1,27 @@
 // Reading the answer form beside a graph form that reads: numbers 11 to 18.
+use crate::Found;
+use crate::Graph;
 use crate::Verdict;
 use crate::bytes::be16;
 use crate::bytes::be32;
 use crate::bytes::wide;
+use crate::reader::find_arc;
 ghost use mathlib.Core.Path.{_≡_};
 ghost use Prim.Native.Nat.{_+_, _*_, _<_, _≤_};
+ghost use mathlib.Core.List.{_∷_};
 ghost use lib.ListN.{length};
 ghost use lib.IntN.{subℕ};
+ghost use mathlib.Core.Bool.{_||_};
+ghost use Rattle.mathematics.specs.Lists.{begins, holds};
+ghost use Rattle.mathematics.specs.Graph.{isStart, isEnd};
 ghost use Rattle.checker.specs.Bytes.{part};
+ghost use Rattle.checker.specs.GraphForm.{vertexCount, arcCount, flags, arcAt, arcCost};
+ghost use Rattle.checker.specs.GraphOf.{graphOf};
 ghost use Rattle.checker.specs.GraphFaults.{nothingRefused};
+ghost use Rattle.checker.specs.Limits.{maxReads, maxCost};
+ghost use Rattle.checker.specs.GraphReads.{Reads};
+ghost use Rattle.checker.specs.ArcTable.{ArcTable};
+ghost use Rattle.checker.specs.Tallies.{Marked, Room, Walked, goesOnTo, onward};
 ghost use Rattle.checker.specs.AnswerForm.{signed32, inMarkAt};
 ghost use Rattle.checker.specs.AnswerFaults.{answerHeaderVerdict, markFault, marksVerdict, listBefore};
 
@@ -135,8 +148,8 @@ fn comes_before(t: &[u8], a: usize, la: usize, b: usize, lb: usize) -> bool
         if lb <= i {
             return false;
         }
-        let x = wide(t[a + i]);
-        let y = wide(t[b + i]);
+        let x = t[a + i];
+        let y = t[b + i];
         if x < y {
             return true;
         }
@@ -146,4 +159,135 @@ fn comes_before(t: &[u8], a: usize, la: usize, b: usize, lb: usize) -> bool
         i += 1;
     }
     i < lb
+}
+
+// Whether the lb bytes of t at b begin with the la bytes of s at a.
+fn begins_at(s: &[u8], a: usize, la: usize, t: &[u8], b: usize, lb: usize) -> bool
+    requires { ⌜ (a + la ≤ length (now s)) × (b + lb ≤ length (now t)) × (la ≤ lb) ⌝ }
+    ensures { λ r. ⌜ r ≡ begins (part (now (s .entry)) a la) (part (now (t .entry)) b lb) ⌝ }
+{
+    let mut i = 0;
+    while i < la {
+        let x = s[a + i];
+        let y = t[b + i];
+        if x != y {
+            return false;
+        }
+        i += 1;
+    }
+    true
+}
+
+// Whether the lb bytes of t at b hold the la bytes of s at a consecutively. Only where the first is met the others are compared.
+fn holds_read(s: &[u8], a: usize, la: usize, t: &[u8], b: usize, lb: usize) -> bool
+    requires { ⌜ (a + la ≤ length (now s)) × (b + lb ≤ length (now t)) × (0 < la) × (la < 256) ⌝ }
+    ensures { λ r. ⌜ r ≡ holds (part (now (t .entry)) b lb) (part (now (s .entry)) a la) ⌝ }
+{
+    let first = s[a];
+    let mut j = 0;
+    while j + la <= lb {
+        let y = t[b + j];
+        if y != first {
+            j += 1;
+            continue;
+        }
+        if begins_at(s, a, la, t, b + j, lb - j) {
+            return true;
+        }
+        j += 1;
+    }
+    false
+}
+
+// Whether a read that was met by a path before, or not, is met now: the path is looked at only where the read was not.
+fn met_now(met: bool, s: &[u8], a: usize, la: usize, t: &[u8], b: usize, lb: usize) -> bool
+    requires { ⌜ (a + la ≤ length (now s)) × (b + lb ≤ length (now t)) × (0 < la) × (la < 256) ⌝ }
+    ensures { λ r. ⌜ r ≡ (met || holds (part (now (t .entry)) b lb) (part (now (s .entry)) a la)) ⌝ }
+{
+    if met {
+        return true;
+    }
+    holds_read(s, a, la, t, b, lb)
+}
+
+// Marks the reads that the path of lb vertices at b holds. Reads are walked by their records.
+fn mark_reads(s: &[u8], t: &[u8], b: usize, lb: usize, met: &mut [bool; 16])
+    requires { ⌜ Reads (now s) × (b + lb ≤ length (now t)) × (length (now met) ≡ maxReads) ⌝ }
+    ensures { λ r. ⌜ Marked (now (s .entry)) (part (now (t .entry)) b lb) (now (met .entry)) (now (met .exit)) ⌝ }
+{
+    let count = wide(s[8]);
+    let mut at = Graph::HEADER + Graph::VERTEX * wide(s[5]) + Graph::ARC * be16(s, 6);
+    let mut r = 0;
+    while r < count {
+        let la = wide(s[at]);
+        met[r] = met_now(met[r], s, at + 1, la, t, b, lb);
+        at = at + 1 + la;
+        r += 1;
+    }
+}
+
+// What walking along a path gives: whether it is a path of the graph, and the costs of its arcs.
+pub struct Walk {
+    pub ok: bool,
+    pub cost: usize,
+}
+
+// The flag byte of vertex v.
+fn flag_of(s: &[u8], v: usize) -> usize
+    requires { ⌜ Reads (now s) × (v < vertexCount (now s)) ⌝ }
+    ensures { λ r. ⌜ r ≡ flags (now (s .entry)) v ⌝ }
+{
+    wide(s[Graph::HEADER + Graph::VERTEX * v])
+}
+
+fn is_start(s: &[u8], v: usize) -> bool
+    requires { ⌜ Reads (now s) × (v < vertexCount (now s)) ⌝ }
+    ensures { λ r. ⌜ r ≡ isStart (graphOf (now (s .entry))) v ⌝ }
+{
+    flag_of(s, v) % 2 == 1
+}
+
+fn is_end(s: &[u8], v: usize) -> bool
+    requires { ⌜ Reads (now s) × (v < vertexCount (now s)) ⌝ }
+    ensures { λ r. ⌜ r ≡ isEnd (graphOf (now (s .entry))) v ⌝ }
+{
+    flag_of(s, v) / 2 == 1
+}
+
+// The cost of arc k.
+fn cost_of(s: &[u8], n: usize, k: usize) -> usize
+    requires { ⌜ Reads (now s) × (n ≡ vertexCount (now s)) × (k < arcCount (now s)) ⌝ }
+    ensures { λ r. ⌜ r ≡ arcCost (now (s .entry)) (arcAt (now (s .entry)) k) ⌝ }
+    ensures low { λ r. ⌜ r ≤ maxCost ⌝ }
+{
+    be32(s, Graph::HEADER + Graph::VERTEX * n + Graph::ARC * k + 2)
+}
+
+// Walks on from vertex u, which is counted already, along lb vertices at b: one look for an arc with each.
+fn walk_on(s: &[u8], first: &[u16; 65], t: &[u8], b: usize, lb: usize, from: usize, weight: usize, vertex_totals: &mut [usize; 64], arc_totals: &mut [usize; 256]) -> Walk
+    requires { ⌜ Reads (now s) × ArcTable (now s) (now first) × (from < vertexCount (now s)) ⌝ }
+    requires { ⌜ (lb ≤ 63) × (b + lb ≤ length (now t)) × Room (now s) (now «vertex_totals») (now «arc_totals») weight ⌝ }
+    ensures { λ r. ⌜ Walked (now (s .entry)) (goesOnTo (now (s .entry)) from (part (now (t .entry)) b lb)) (onward from (part (now (t .entry)) b lb)) (from ∷ part (now (t .entry)) b lb) weight (now («vertex_totals» .entry)) (now («vertex_totals» .exit)) (now («arc_totals» .entry)) (now («arc_totals» .exit)) (r .ok) (r .cost) ⌝ }
+{
+    let n = wide(s[5]);
+    let mut u = from;
+    let mut cost = 0;
+    let mut j = 0;
+    while j < lb {
+        let v = wide(t[b + j]);
+        if n <= v {
+            return Walk { ok: false, cost: 0 };
+        }
+        let found = find_arc(s, first, u, v);
+        let Found::At(k) = found else {
+            return Walk { ok: false, cost: 0 };
+        };
+        arc_totals[k] = arc_totals[k] + weight;
+        vertex_totals[v] = vertex_totals[v] + weight;
+        cost += cost_of(s, n, k);
+        u = v;
+        j += 1;
+    }
+    let ok = is_end(s, u);
+    Walk { ok, cost }
 }

@@ -1,0 +1,172 @@
+-- Walking along a path of an answer: which arc is found, what one step adds to the totals, and the laws of the loop that walks.
+use Prim.Native.Nat.{ℕ, zero, suc, _+_, _-_, _*_, _/_, _%_, _<_, _≤_}
+use native.Mathlib.Nat.{le-refl, zero-add, add-zero, sub-zero, add-suc, mul-one, mul-zero, mul-add, mul-le-mul-left}
+use native.Mathlib.Numerals.{add-one}
+use native.Mathlib.Decide.{decLt, ℕ-discrete}
+use native.Mathlib.Omega.{arith}
+use mathlib.Core.Path.{_≡_, refl, sym, ap, subst, _∙_}
+use mathlib.Core.List.{List, [], _∷_}
+use mathlib.Core.Bool.{Bool, true, false, cond, _&&_, _||_}
+use mathlib.Core.Logic.{⊎-elim}
+use lib.Dec.{ltb, eqb}
+use lib.ListN.{length, getD, set, length-set}
+use lib.Seq.{getD-set-same, getD-set-other}
+use lib.IntN.{ℤ, pos, _+ℤ_, +ℤ-assoc}
+use borrow.Author.Tests.{lt-ltb, le-ltb, eq-eqb, ne-eqb, eqb-true}
+use Rattle.mathematics.specs.Price.{whole}
+use Rattle.mathematics.specs.Lists.{lastOf}
+use Rattle.mathematics.specs.Graph.{Vertex, noVertex, Arc, joins, hasArc, linked, isStart, isEnd, isPath}
+use Rattle.mathematics.specs.Cover.{Item, vert, arc, sameItem, oneIf, countOf, trail, costOf, arcCosts}
+use Rattle.checker.specs.declared.Found.{Found}
+use Rattle.checker.specs.declared.Found.the-variants.{At, Missing}
+use Rattle.checker.specs.Bytes.{byte, part, tabulate}
+use Rattle.checker.specs.Limits.{maxVertices, maxArcs, maxCost, maxWeight, maxPathLength}
+use Rattle.checker.specs.GraphForm.{vertexCount, arcCount, flags, arcAt, arcTail, arcHead, arcCost}
+use Rattle.checker.specs.GraphOf.{graphOf, vertexOf, arcOf, arcsOf}
+use Rattle.checker.specs.GraphFaults.{allBelow}
+use Rattle.checker.specs.GraphReads.{ArcsRight, Reads}
+use Rattle.checker.specs.ArcTable.{numberFrom, arcNumber, ArcTable}
+use Rattle.checker.specs.Tallies.{arcItem, onward, goesOnTo, Room, Grown, Walked}
+use Rattle.checker.proofs.AnswerLaws.{part-cons}
+
+-- entry i of a tabulated list
+getD-tabulate : {A : Type 0} (f : ℕ → A) (count first i : ℕ) (d : A) → i < count → getD (tabulate f count first) i d ≡ f (first + i)
+getD-tabulate f zero first i d h = absurd (omega arith)
+getD-tabulate f (suc count) first zero d h = rw add-zero
+getD-tabulate f (suc count) first (suc i) d h =
+    let same : suc first + i ≡ first + suc i = omega arith in
+    getD-tabulate f count (suc first) i d (omega arith) ∙ ap f same
+
+module _ (s : List ℕ) (v : ℕ) (inside : v < vertexCount s) where
+  pub start-is : isStart (graphOf s) v ≡ eqb (flags s v % 2) 1
+  unfolding graphOf
+  start-is = ap (λ (x : Vertex). x .start) (getD-tabulate (vertexOf s) (vertexCount s) 0 v noVertex inside) ∙ rw zero-add
+
+  pub end-is : isEnd (graphOf s) v ≡ eqb (flags s v / 2) 1
+  unfolding graphOf
+  end-is = ap (λ (x : Vertex). x .end) (getD-tabulate (vertexOf s) (vertexCount s) 0 v noVertex inside) ∙ rw zero-add
+
+both-true : (x y : Bool) → (x && y) ≡ true → (x ≡ true) × (y ≡ true)
+both-true true y e = (refl, e)
+both-true false y e = (e, absurd (false-not-true e))
+  where
+    false-not-true : false ≡ true → ⊥
+    false-not-true q = let z : _≡_ {A = ℕ} 0 1 = cc in omega arith
+
+-- arc k is the one from u to v
+pub record TheArc (s : List ℕ) (u v k : ℕ) : Type 0 where
+  pub inside : k < arcCount s
+  pub tail : arcTail s (arcAt s k) ≡ u
+  pub head : arcHead s (arcAt s k) ≡ v
+  pub cost : costOf whole (arcsOf s) u v ≡ pos (arcCost s (arcAt s k))
+  pub has : hasArc (arcsOf s) u v ≡ true
+
+module _ (s : List ℕ) (u v : ℕ) where
+  -- the same among count arcs from arc i on
+  record FoundFrom (count i k : ℕ) : Type 0 where
+    inside : k < i + count
+    tail : arcTail s (arcAt s k) ≡ u
+    head : arcHead s (arcAt s k) ≡ v
+    cost : costOf whole (tabulate (arcOf s) count i) u v ≡ pos (arcCost s (arcAt s k))
+    has : hasArc (tabulate (arcOf s) count i) u v ≡ true
+
+  found-here : (count i k : ℕ) → joins (arcOf s i) u v ≡ true → At k ≡ At i → FoundFrom (suc count) i k
+  found-here count i k j e =
+      let same : k ≡ i = cc in
+      let both = both-true _ _ j in
+      rw same
+      (record {
+        inside = omega arith;
+        tail = eqb-true _ _ (both .0);
+        head = eqb-true _ _ (both .1);
+        cost = rw j;
+        has = rw j;
+      })
+
+  found-later : (count i k : ℕ) → joins (arcOf s i) u v ≡ false → FoundFrom count (suc i) k → FoundFrom (suc count) i k
+  found-later count i k j f =
+      record {
+        inside = omega (arith, f .inside);
+        tail = f .tail;
+        head = f .head;
+        cost = rw j (f .cost);
+        has = rw j (f .has);
+      }
+
+  found-from : (count i k : ℕ) → At k ≡ numberFrom (tabulate (arcOf s) count i) u v i → FoundFrom count i k
+  unfolding numberFrom
+  found-from zero i k e = absurd (let z : _≡_ {A = ℕ} 0 1 = cc in omega arith)
+  found-from (suc count) i k e = go (joins (arcOf s i) u v) refl (λ f. found-from count (suc i) k f) e
+    where
+      go : (b : Bool) → joins (arcOf s i) u v ≡ b → (At k ≡ numberFrom (tabulate (arcOf s) count (suc i)) u v (suc i) → FoundFrom count (suc i) k) → At k ≡ cond b (At i) (numberFrom (tabulate (arcOf s) count (suc i)) u v (suc i)) → FoundFrom (suc count) i k
+      go true j later e = found-here count i k j e
+      go false j later e = found-later count i k j (later e)
+
+  pub found-arc : (k : ℕ) → At k ≡ arcNumber (arcsOf s) u v → TheArc s u v k
+  found-arc k e =
+      let f = found-from (arcCount s) 0 k e in
+      record { inside = omega (arith, f .inside); tail = f .tail; head = f .head; cost = f .cost; has = f .has }
+
+-- what rises from each to the next rises from each to every later one
+strictly : (f : ℕ → ℕ) (m : ℕ) → ((a : ℕ) → suc a < m → f a < f (suc a)) → (j k : ℕ) → j < k → k < m → f j < f k
+strictly f m step j zero l h = absurd (omega arith)
+strictly f m step j (suc k) l h = go (decLt j k) (λ q. strictly f m step j k q (omega arith))
+  where
+    go : Dec (j < k) → (j < k → f j < f k) → f j < f (suc k)
+    go (yes q) before = omega (arith, before q, step k h)
+    go (no q) before =
+        let same : k ≡ j = omega arith in
+        subst (λ x. f x < f (suc k)) same (step k h)
+
+-- Arcs ascend strictly, so no two have the same ends.
+module _ (s : List ℕ) (right : ArcsRight s) where
+  abbrev key : ℕ → ℕ
+  key a = arcTail s (arcAt s a) * 256 + arcHead s (arcAt s a)
+
+  key-step : (a : ℕ) → suc a < arcCount s → key a < key (suc a)
+  key-step a h =
+      let low = right .each a (omega arith) .inside in
+      let few = right .header .few-vertices in
+      ⊎-elim (λ l. omega arith) (λ e. omega (arith, e .0, e .1)) (right .ascending a h)
+
+  key-less : (j k : ℕ) → j < k → k < arcCount s → key j < key k
+  key-less = strictly key (arcCount s) key-step
+
+  pub arcs-once : (j k : ℕ) → j < arcCount s → k < arcCount s → arcTail s (arcAt s j) ≡ arcTail s (arcAt s k) → arcHead s (arcAt s j) ≡ arcHead s (arcAt s k) → j ≡ k
+  arcs-once j k hj hk t h = go (decLt j k) (decLt k j)
+    where
+      go : Dec (j < k) → Dec (k < j) → j ≡ k
+      go (yes l) e = absurd (omega (arith, key-less j k l hk))
+      go (no l) (yes m) = absurd (omega (arith, key-less k j m hj))
+      go (no l) (no m) = omega arith
+
+  -- of the arcs only arc k goes from u to v
+  only-arc : (u v k j : ℕ) → TheArc s u v k → j < arcCount s → sameItem (arcItem s j) (arc u v) ≡ eqb j k
+  only-arc u v k j f h = go (ℕ-discrete j k)
+    where
+      go : Dec (j ≡ k) → sameItem (arcItem s j) (arc u v) ≡ eqb j k
+      go (yes e) = rw (e, eq-eqb _ _ (f .tail), eq-eqb _ _ (f .head)) (sym (eq-eqb k k refl))
+      go (no e) = other (eqb (arcTail s (arcAt s j)) u) (eqb (arcHead s (arcAt s j)) v) refl refl ∙ sym (ne-eqb j k e)
+        where
+          other : (x y : Bool) → eqb (arcTail s (arcAt s j)) u ≡ x → eqb (arcHead s (arcAt s j)) v ≡ y → (eqb (arcTail s (arcAt s j)) u && eqb (arcHead s (arcAt s j)) v) ≡ false
+          other true true p q =
+              absurd (e (arcs-once j k h (f .inside) (eqb-true _ _ p ∙ sym (f .tail)) (eqb-true _ _ q ∙ sym (f .head))))
+          other true false p q = rw (p, q)
+          other false y p q = rw p
+
+-- a total that grows by the weight, with c more to come
+grow : (l : List ℕ) (i w x c : ℕ) → i < length l → getD (set l i (getD l i 0 + w)) x 0 + w * c ≡ getD l x 0 + w * (oneIf (eqb x i) + c)
+grow l i w x c h = go (ℕ-discrete x i)
+  where
+    go : Dec (x ≡ i) → getD (set l i (getD l i 0 + w)) x 0 + w * c ≡ getD l x 0 + w * (oneIf (eqb x i) + c)
+    go (yes e) = rw (e, getD-set-same l i (getD l i 0 + w) 0 h, eq-eqb i i refl, mul-add, mul-one) (omega arith)
+    go (no e) = rw (getD-set-other l i x (getD l i 0 + w) 0 e, ne-eqb x i e, zero-add)
+
+-- an item is among the items at most as often as there are items
+count-few : (i : Item) (js : List Item) → countOf i js ≤ length js
+count-few i [] = le-refl 0
+count-few i (j ∷ js) = go (sameItem i j) (count-few i js)
+  where
+    go : (b : Bool) → countOf i js ≤ length js → oneIf b + countOf i js ≤ suc (length js)
+    go true h = omega arith
+    go false h = omega arith
