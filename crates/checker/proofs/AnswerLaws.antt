@@ -150,10 +150,15 @@ module _ {t : List ℕ} {n left at : ℕ} (inv : MarksLeft t n left at) where
 
 -- a part that is not empty, by its first byte
 pub part-cons : (t : List ℕ) (at count : ℕ) → 0 < count → at < length t → part t at count ≡ byte t at ∷ part t (at + 1) (count - 1)
+unfolding part
 part-cons t at zero h k = absurd (omega arith)
 part-cons t at (suc count) h k =
     let same : suc count - 1 ≡ count = omega arith in
     rw (same, add-one, drop-cons t at 0)
+
+pub part-none : (t : List ℕ) (at : ℕ) → part t at 0 ≡ []
+unfolding part
+part-none t at = refl
 
 -- Two parts are the same up to i, and what is left of them decides which comes first.
 pub record BothLeft (t : List ℕ) (a la b lb i : ℕ) : Type 0 where
@@ -167,7 +172,7 @@ module _ {t : List ℕ} {a la b lb i : ℕ} (inv : BothLeft t a la b lb i) where
   pub before-short : i < la → lb ≤ i → false ≡ listBefore (part t a la) (part t b lb)
   before-short more h =
       let none : lb - i ≡ 0 = omega arith in
-      sym (inv .decide ∙ rw (part-cons t (a + i) (la - i) (omega arith) (omega arith), none))
+      sym (inv .decide ∙ rw (part-cons t (a + i) (la - i) (omega arith) (omega arith), none, part-none))
 
   module _ (more : i < la) (more′ : i < lb) where
     before-split : listBefore (part t a la) (part t b lb) ≡ (ltb (byte t (a + i)) (byte t (b + i)) || (eqb (byte t (a + i)) (byte t (b + i)) && listBefore (part t (a + i + 1) (la - i - 1)) (part t (b + i + 1) (lb - i - 1))))
@@ -202,8 +207,8 @@ module _ {t : List ℕ} {a la b lb i : ℕ} (inv : BothLeft t a la b lb i) where
       none = omega arith
 
       go : Dec (i < lb) → ltb i lb ≡ listBefore (part t a la) (part t b lb)
-      go (yes l) = lt-ltb _ _ l ∙ sym (inv .decide ∙ rw (none, part-cons t (b + i) (lb - i) (omega arith) (omega arith)))
-      go (no l) = le-ltb i lb (omega arith) ∙ sym (inv .decide ∙ rw (none, none′))
+      go (yes l) = lt-ltb _ _ l ∙ sym (inv .decide ∙ rw (none, part-none t (a + i), part-cons t (b + i) (lb - i) (omega arith) (omega arith)))
+      go (no l) = le-ltb i lb (omega arith) ∙ sym (inv .decide ∙ rw (none, none′, part-none t (a + i), part-none t (b + i)))
         where
           none′ : lb - i ≡ 0
           none′ = omega arith

@@ -17,7 +17,7 @@ use Rattle.checker.specs.GraphForm.{readCount, firstReadAt, readLength, 
 use Rattle.checker.specs.GraphOf.{readsFrom}
 use Rattle.checker.specs.GraphReads.{Reads, ReadRight, ReadsRight}
 use Rattle.checker.specs.Tallies.{readOf, Marked}
-use Rattle.checker.proofs.AnswerLaws.{part-cons}
+use Rattle.checker.proofs.AnswerLaws.{part-cons, part-none}
 
 and-false : (x : Bool) → (x && false) ≡ false
 and-false true = refl
@@ -33,7 +33,8 @@ holds-longer : (p r : List ℕ) → length p < length r → holds p r ≡ false
 holds-longer [] r h = begins-longer r [] h
 holds-longer (y ∷ p) r h = rw (begins-longer r (y ∷ p) h, holds-longer p r (omega arith))
 
-part-length : (s : List ℕ) (a n : ℕ) → a + n ≤ length s → length (part s a n) ≡ n
+pub part-length : (s : List ℕ) (a n : ℕ) → a + n ≤ length s → length (part s a n) ≡ n
+unfolding part
 part-length s a n h = simp (length-take, length-drop) (omega arith)
 
 -- A read and the rest of a path are the same up to i, and what is left of them decides.
@@ -68,7 +69,7 @@ module _ {s : List ℕ} {a la : ℕ} {t : List ℕ} {b lb i : ℕ} (inv : Begins
   pub begins-end : la ≤ i → true ≡ begins (part s a la) (part t b lb)
   begins-end h =
       let none : la - i ≡ 0 = omega arith in
-      sym (inv .decide ∙ rw none)
+      sym (inv .decide ∙ rw (none, part-none))
 
 -- No vertex of a path before j is where the read begins, and the rest of the path decides.
 pub record HoldsLeft (s : List ℕ) (a la : ℕ) (t : List ℕ) (b lb j : ℕ) : Type 0 where

@@ -11,7 +11,7 @@ use mathlib.Core.Logic.{⊎-elim}
 use lib.Dec.{ltb, eqb}
 use lib.ListN.{length, getD, set, length-set}
 use lib.Seq.{getD-set-same, getD-set-other}
-use lib.IntN.{ℤ, pos, _+ℤ_, +ℤ-assoc}
+use lib.IntN.{ℤ, pos, _+ℤ_, +ℤ-assoc, +ℤ-idl, +ℤ-idr}
 use borrow.Author.Tests.{lt-ltb, le-ltb, eq-eqb, ne-eqb, eqb-true}
 use Rattle.mathematics.specs.Price.{whole}
 use Rattle.mathematics.specs.Lists.{lastOf}
@@ -19,7 +19,7 @@ use Rattle.mathematics.specs.Graph.{Vertex, noVertex, Arc, joins, hasArc, linke
 use Rattle.mathematics.specs.Cover.{Item, vert, arc, sameItem, oneIf, countOf, trail, costOf, arcCosts}
 use Rattle.checker.specs.declared.Found.{Found}
 use Rattle.checker.specs.declared.Found.the-variants.{At, Missing}
-use Rattle.checker.specs.Bytes.{byte, part, tabulate}
+use Rattle.checker.specs.Bytes.{byte, be32, part, tabulate}
 use Rattle.checker.specs.Limits.{maxVertices, maxArcs, maxCost, maxWeight, maxPathLength}
 use Rattle.checker.specs.GraphForm.{vertexCount, arcCount, flags, arcAt, arcTail, arcHead, arcCost}
 use Rattle.checker.specs.GraphOf.{graphOf, vertexOf, arcOf, arcsOf}
@@ -27,7 +27,9 @@ use Rattle.checker.specs.GraphFaults.{allBelow}
 use Rattle.checker.specs.GraphReads.{ArcsRight, Reads}
 use Rattle.checker.specs.ArcTable.{numberFrom, arcNumber, ArcTable}
 use Rattle.checker.specs.Tallies.{arcItem, onward, goesOnTo, Room, Grown, Walked}
-use Rattle.checker.proofs.AnswerLaws.{part-cons}
+use Rattle.checker.proofs.AnswerLaws.{part-cons, part-none}
+use Rattle.checker.proofs.AnswerReads.{part-length}
+use Rattle.checker.proofs.WalkLaws.{isAt, found-is}
 
 -- entry i of a tabulated list
 getD-tabulate : {A : Type 0} (f : ℕ → A) (count first i : ℕ) (d : A) → i < count → getD (tabulate f count first) i d ≡ f (first + i)
@@ -73,7 +75,7 @@ module _ (s : List ℕ) (u v : ℕ) where
   found-here : (count i k : ℕ) → joins (arcOf s i) u v ≡ true → At k ≡ At i → FoundFrom (suc count) i k
   found-here count i k j e =
       let same : k ≡ i = cc in
-      let both = both-true _ _ j in
+      let both : (eqb (arcTail s (arcAt s i)) u ≡ true) × (eqb (arcHead s (arcAt s i)) v ≡ true) = both-true _ _ j in
       rw same
       (record {
         inside = omega arith;
@@ -170,3 +172,150 @@ count-few i (j ∷ js) = go (sameItem i j) (count-few i js)
     go : (b : Bool) → countOf i js ≤ length js → oneIf b + countOf i js ≤ suc (length js)
     go true h = omega arith
     go false h = omega arith
+
+-- the cost of arc k, read where it stands
+pub cost-read : (s : List ℕ) (n k r : ℕ) → Reads s → n ≡ vertexCount s → k < arcCount s → r ≡ be32 s (13 + 5 * n + 10 * k + 2) → (r ≡ arcCost s (arcAt s k)) × (r ≤ maxCost)
+cost-read s n k r reads e inside read =
+    let same : r ≡ arcCost s (arcAt s k) = rw e at read in
+    (same, omega (arith, reads .arcs .each k inside .low-cost))
+
+length-onward : (u : ℕ) (q : List ℕ) → length (onward u q) ≡ 2 * length q
+length-onward u [] = refl
+length-onward u (v ∷ q) = omega (arith, length-onward v q)
+
+and-none : (x : Bool) → (x && false) ≡ false
+and-none true = refl
+and-none false = refl
+
+-- what goes on from u to v and from there along q
+module _ (s : List ℕ) (u v : ℕ) (q : List ℕ) where
+  goes-outside : vertexCount s ≤ v → goesOnTo s u (v ∷ q) ≡ false
+  unfolding goesOnTo
+  goes-outside h = rw (le-ltb v (vertexCount s) h)
+
+  goes-nowhere : hasArc (arcsOf s) u v ≡ false → goesOnTo s u (v ∷ q) ≡ false
+  unfolding goesOnTo
+  goes-nowhere h = rw h (and-none (allBelow (vertexCount s) (v ∷ q)))
+
+  goes-along : v < vertexCount s → hasArc (arcsOf s) u v ≡ true → goesOnTo s u (v ∷ q) ≡ goesOnTo s v q
+  unfolding goesOnTo
+  goes-along h e = rw (lt-ltb v (vertexCount s) h, e)
+
+goes-end : (s : List ℕ) (u : ℕ) → goesOnTo s u [] ≡ isEnd (graphOf s) u
+unfolding goesOnTo
+goes-end s u = refl
+
+-- the cost of one arc more
+cost-step : (arcs : List (Arc ℤ)) (u v : ℕ) (q : List ℕ) (a c : ℕ) → costOf whole arcs u v ≡ pos c → pos (a + c) +ℤ arcCosts whole arcs (v ∷ q) ≡ pos a +ℤ arcCosts whole arcs (u ∷ v ∷ q)
+cost-step arcs u v q a c e =
+    +ℤ-assoc (pos a) (pos c) (arcCosts whole arcs (v ∷ q))
+    ∙ ap (λ x. pos a +ℤ (x +ℤ arcCosts whole arcs (v ∷ q))) (sym e)
+
+pub walk-fails : {s : List ℕ} {right : Bool} {items : List Item} {p : List ℕ} {w : ℕ} {vb va ab aa : List ℕ} → false ≡ right → Walked s right items p w vb va ab aa false 0
+walk-fails e =
+    record {
+      is-right = e;
+      grown = λ z. absurd (never z);
+      costs = λ z. absurd (never z);
+      low-cost = λ z. absurd (never z);
+    }
+  where
+    never : false ≡ true → ⊥
+    never q = let z : _≡_ {A = ℕ} 0 1 = cc in omega arith
+
+-- Of the lb vertices at b those from j on are left, after u: they decide, and with what they add the totals and the costs are those of all.
+pub record WalkLeft (s t : List ℕ) (b lb from weight : ℕ) (vb vt ab at : List ℕ) (u cost j : ℕ) : Type 0 where
+  pub within : (j ≤ lb) × (u < vertexCount s) × (length vt ≡ maxVertices) × (length at ≡ maxArcs) × (cost ≤ maxCost * j)
+  pub decide : goesOnTo s from (part t b lb) ≡ goesOnTo s u (part t (b + j) (lb - j))
+  pub vertices : (x : ℕ) → x < maxVertices → getD vt x 0 + weight * countOf (vert x) (onward u (part t (b + j) (lb - j))) ≡ getD vb x 0 + weight * countOf (vert x) (onward from (part t b lb))
+  pub arcs : (k : ℕ) → k < arcCount s → getD at k 0 + weight * countOf (arcItem s k) (onward u (part t (b + j) (lb - j))) ≡ getD ab k 0 + weight * countOf (arcItem s k) (onward from (part t b lb))
+  pub costs : pos cost +ℤ arcCosts whole (arcsOf s) (u ∷ part t (b + j) (lb - j)) ≡ arcCosts whole (arcsOf s) (from ∷ part t b lb)
+
+pub walk-begin : {s t : List ℕ} {b lb from weight : ℕ} {vb ab : List ℕ} → from < vertexCount s → Room s vb ab weight → WalkLeft s t b lb from weight vb vb ab ab from 0 0
+walk-begin h room =
+    record {
+      within = omega (arith, room .vertices-long, room .arcs-long);
+      decide = rw (add-zero, sub-zero);
+      vertices = λ x l. rw (add-zero, sub-zero);
+      arcs = λ k l. rw (add-zero, sub-zero);
+      costs = rw (add-zero, sub-zero) (+ℤ-idl _);
+    }
+
+module _ {s t : List ℕ} {b lb from weight : ℕ} {vb vt ab at : List ℕ} {u cost j : ℕ} (inv : WalkLeft s t b lb from weight vb vt ab at u cost j) where
+  -- a total has room for the weight: what was added so far is no more than what the whole path adds
+  module _ (fits : b + lb ≤ length t) (short : lb ≤ 63) (room : Room s vb ab weight) where
+    few : (i : Item) → weight * countOf i (onward from (part t b lb)) ≤ weight * 126
+    few i =
+        mul-le-mul-left weight
+        (omega (arith, count-few i (onward from (part t b lb)), length-onward from (part t b lb), part-length t b lb fits))
+
+    pub vertex-room : (x : ℕ) → x < maxVertices → getD vt x 0 ≤ 254 * maxWeight
+    vertex-room x l = omega (arith, inv .vertices x l, few (vert x), room .vertices-low x l, room .low-weight)
+
+    pub arc-room : (k : ℕ) → k < arcCount s → getD at k 0 ≤ 254 * maxWeight
+    arc-room k l = omega (arith, inv .arcs k l, few (arcItem s k), room .arcs-low k l, room .low-weight)
+
+  module _ (fits : b + lb ≤ length t) (more : j < lb) {v : ℕ} (read : v ≡ byte t (b + j)) where
+    rest : part t (b + j) (lb - j) ≡ v ∷ part t (b + (j + 1)) (lb - (j + 1))
+    rest =
+        let e₁ : b + j + 1 ≡ b + (j + 1) = omega arith in
+        let e₂ : lb - j - 1 ≡ lb - (j + 1) = omega arith in
+        part-cons t (b + j) (lb - j) (omega arith) (omega arith) ∙ rw (e₁, e₂, read)
+
+    pub walk-outside : vertexCount s ≤ v → false ≡ goesOnTo s from (part t b lb)
+    walk-outside h = sym (inv .decide ∙ rw rest (goes-outside s u v _ h))
+
+    pub walk-nowhere : Missing ≡ arcNumber (arcsOf s) u v → false ≡ goesOnTo s from (part t b lb)
+    walk-nowhere e = sym (inv .decide ∙ rw rest (goes-nowhere s u v _ (sym (ap isAt e ∙ found-is (arcsOf s) u v 0))))
+
+    module _ {k : ℕ} (right : ArcsRight s) (found : At k ≡ arcNumber (arcsOf s) u v) (inside : v < vertexCount s) where
+      the : TheArc s u v k
+      the = found-arc s u v k found
+
+      vertex-turn : (x : ℕ) → x < maxVertices → getD (set vt v (getD vt v 0 + weight)) x 0 + weight * countOf (vert x) (onward v (part t (b + (j + 1)) (lb - (j + 1)))) ≡ getD vb x 0 + weight * countOf (vert x) (onward from (part t b lb))
+      vertex-turn x l =
+          grow vt v weight x _ (omega (arith, right .header .few-vertices)) ∙ (rw (rest, zero-add) at (inv .vertices x l))
+
+      arc-turn : (i : ℕ) → i < arcCount s → getD (set at k (getD at k 0 + weight)) i 0 + weight * countOf (arcItem s i) (onward v (part t (b + (j + 1)) (lb - (j + 1)))) ≡ getD ab i 0 + weight * countOf (arcItem s i) (onward from (part t b lb))
+      arc-turn i l =
+          grow at k weight i _ (omega (arith, right .header .few-arcs, the .inside))
+          ∙ (rw (rest, only-arc s right u v k i the l, zero-add) at (inv .arcs i l))
+
+      pub walk-turn : {c : ℕ} → c ≡ arcCost s (arcAt s k) → c ≤ maxCost → WalkLeft s t b lb from weight vb (set vt v (getD vt v 0 + weight)) ab (set at k (getD at k 0 + weight)) v (cost + c) (j + 1)
+      walk-turn {c} e low =
+          record {
+            within = simp length-set (omega arith);
+            decide = inv .decide ∙ rw rest (goes-along s u v _ inside (the .has));
+            vertices = vertex-turn;
+            arcs = arc-turn;
+            costs =
+                cost-step (arcsOf s) u v (part t (b + (j + 1)) (lb - (j + 1))) cost c (the .cost ∙ ap pos (sym e))
+                ∙ ap (λ q. pos cost +ℤ arcCosts whole (arcsOf s) (u ∷ q)) (sym rest)
+                ∙ inv .costs;
+          }
+
+  module _ (h : lb ≤ j) where
+    over : part t (b + j) (lb - j) ≡ []
+    over =
+        let none : lb - j ≡ 0 = omega arith in
+        rw none (part-none t (b + j))
+
+    pub walk-end : {ok : Bool} → lb ≤ 63 → ok ≡ isEnd (graphOf s) u → Walked s (goesOnTo s from (part t b lb)) (onward from (part t b lb)) (from ∷ part t b lb) weight vb vt ab at ok cost
+    walk-end short e =
+        record {
+          is-right = e ∙ sym (inv .decide ∙ rw over (goes-end s u));
+          grown =
+              λ z.
+              record {
+                vertices-long = inv .within .2;
+                arcs-long = inv .within .3;
+                vertices = λ x l. rw (over, mul-zero, add-zero) at (inv .vertices x l);
+                arcs = λ k l. rw (over, mul-zero, add-zero) at (inv .arcs k l);
+              };
+          costs =
+              λ z.
+              sym (+ℤ-idr (pos cost))
+              ∙ ap (λ q. pos cost +ℤ arcCosts whole (arcsOf s) (u ∷ q)) (sym over)
+              ∙ inv .costs;
+          low-cost = λ z. omega arith;
+        }

@@ -264,7 +264,17 @@ fn cost_of(s: &[u8], n: usize, k: usize) -> usize
 }
 
 // Walks on from vertex u, which is counted already, along lb vertices at b: one look for an arc with each.
-fn walk_on(s: &[u8], first: &[u16; 65], t: &[u8], b: usize, lb: usize, from: usize, weight: usize, vertex_totals: &mut [usize; 64], arc_totals: &mut [usize; 256]) -> Walk
+fn walk_on(
+    s: &[u8],
+    first: &[u16; 65],
+    t: &[u8],
+    b: usize,
+    lb: usize,
+    from: usize,
+    weight: usize,
+    vertex_totals: &mut [usize; 64],
+    arc_totals: &mut [usize; 256],
+) -> Walk
     requires { ⌜ Reads (now s) × ArcTable (now s) (now first) × (from < vertexCount (now s)) ⌝ }
     requires { ⌜ (lb ≤ 63) × (b + lb ≤ length (now t)) × Room (now s) (now «vertex_totals») (now «arc_totals») weight ⌝ }
     ensures { λ r. ⌜ Walked (now (s .entry)) (goesOnTo (now (s .entry)) from (part (now (t .entry)) b lb)) (onward from (part (now (t .entry)) b lb)) (from ∷ part (now (t .entry)) b lb) weight (now («vertex_totals» .entry)) (now («vertex_totals» .exit)) (now («arc_totals» .entry)) (now («arc_totals» .exit)) (r .ok) (r .cost) ⌝ }

@@ -4,15 +4,10 @@ use Rattle.checker.proofs.AnswerWalk.{end-is}
 use borrow.Author.Needs.{needs}
 use Rattle.checker.proofs.answer.is_end.Statement.{statement}
 use Rattle.checker.proofs.answer.is_end.Tie as tie
-use Rattle.checker.proofs.answer.is_end.Reads as reads
-use Rattle.checker.proofs.answer.is_end.Lts as lts
-use Rattle.checker.proofs.answer.flag_of.Reads as flag-of-reads
 
--- src/answer.rt:255:5
 flag-of-requires : tie.Need-flag-of-requires
 flag-of-requires c κs = search needs
 
--- src/answer.rt:251:1
 returns : tie.Need-returns
 returns c = rw (c .flag-of .ensures) (sym (end-is _ _ (search needs)))
 

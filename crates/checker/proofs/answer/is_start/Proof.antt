@@ -4,15 +4,10 @@ use Rattle.checker.proofs.AnswerWalk.{start-is}
 use borrow.Author.Needs.{needs}
 use Rattle.checker.proofs.answer.is_start.Statement.{statement}
 use Rattle.checker.proofs.answer.is_start.Tie as tie
-use Rattle.checker.proofs.answer.is_start.Reads as reads
-use Rattle.checker.proofs.answer.is_start.Lts as lts
-use Rattle.checker.proofs.answer.flag_of.Reads as flag-of-reads
 
--- src/answer.rt:248:5
 flag-of-requires : tie.Need-flag-of-requires
 flag-of-requires c κs = search needs
 
--- src/answer.rt:244:1
 returns : tie.Need-returns
 returns c = rw (c .flag-of .ensures) (sym (start-is _ _ (search needs)))
 

@@ -1,131 +1,103 @@
+-- `checker::answer::walk_on` walks along a path: what is left of it decides, and adds what is lacking.
+use mathlib.Core.Path.{sym, _∙_}
+use native.Mathlib.Omega.{arith}
+use Rattle.checker.specs.GraphForm.{vertexCount}
+use mathlib.Core.Path.{_≡_}
+use Prim.Native.Nat.{_-_}
+use Rattle.checker.proofs.AnswerWalk.{WalkLeft, found-arc, walk-fails, walk-begin, walk-outside, walk-nowhere, walk-turn, walk-end, arc-room, vertex-room}
+use borrow.Author.Needs.{needs}
 use Rattle.checker.proofs.answer.walk_on.Statement.{statement}
 use Rattle.checker.proofs.answer.walk_on.Tie as tie
-use Rattle.checker.proofs.answer.walk_on.Reads as reads
-use Rattle.checker.proofs.answer.walk_on.Lts as lts
-use Rattle.checker.proofs.answer.cost_of.Reads as cost-of-reads
-use Rattle.checker.proofs.answer.is_end.Reads as is-end-reads
-use Rattle.checker.proofs.bytes.wide.Reads as wide-reads
-use Rattle.checker.proofs.reader.find_arc.Reads as find-arc-reads
 
 abbrev Inv-loop : tie.InvT-loop
-Inv-loop s first t b lb from weight vertex-totals₀ arc-totals₀ n u₀ cost₀ j₀ vertex-totals arc-totals u cost j =
-    ?
+Inv-loop s first t b lb from weight vertex-totals₀ arc-totals₀ n u₀ cost₀ j₀ vertex-totals arc-totals u cost j = WalkLeft s t b lb from weight vertex-totals₀ vertex-totals arc-totals₀ arc-totals u cost j × (n ≡ vertexCount s)
 
 abbrev μ-loop : tie.MeasureT-loop
-μ-loop s first t b lb from weight vertex-totals₀ arc-totals₀ n u₀ cost₀ j₀ vertex-totals arc-totals u cost j =
-    ?
+μ-loop s first t b lb from weight vertex-totals₀ arc-totals₀ n u₀ cost₀ j₀ vertex-totals arc-totals u cost j = lb - j
 
--- src/answer.rt:273:18
 shared-slice-read-wide : tie.Need-shared-slice-read-wide Inv-loop μ-loop
-shared-slice-read-wide c = ?
+shared-slice-read-wide c = search needs
 
--- src/answer.rt:273:9
 wide-requires : tie.Need-wide-requires Inv-loop μ-loop
-wide-requires c κs = ?
+wide-requires c κs = search needs
 
--- src/answer.rt:277:5
 loop-holds : tie.Need-loop-holds Inv-loop μ-loop
-loop-holds c = ?
+loop-holds c = (walk-begin (search needs) (search needs), search needs)
 
--- src/answer.rt:278:24
 add-wide : tie.Need-add-wide Inv-loop μ-loop
-add-wide c = ?
+add-wide c = search needs
 
--- src/answer.rt:278:22
 shared-slice-read-wide-2 : tie.Need-shared-slice-read-wide-2 Inv-loop μ-loop
-shared-slice-read-wide-2 c = ?
+shared-slice-read-wide-2 c = search needs
 
--- src/answer.rt:278:13
 wide-requires-2 : tie.Need-wide-requires-2 Inv-loop μ-loop
-wide-requires-2 c κs = ?
+wide-requires-2 c κs = search needs
 
--- src/answer.rt:280:13
 returns : tie.Need-returns Inv-loop μ-loop
-returns c = ?
+returns c = walk-fails (walk-outside (c .before .before .before .before .loop .inv .0) (c .before .before .before .before .before .before .before .before .before .pre .1 .1) (c .before .before .before .loop-test .taken) (c .before .wide2 .ensures .0) (search needs))
 
--- src/answer.rt:282:13
 find-arc-requires : tie.Need-find-arc-requires Inv-loop μ-loop
-find-arc-requires c κs = ?
+find-arc-requires c κs = (c .before .before .before .before .before .before .before .before .before .pre .0 .1, omega (arith, c .before .before .before .before .loop .inv .0 .within, (c .before .before .before .before .before .before .before .before .before .pre .0 .0 .arcs) .header .few-vertices))
 
--- src/answer.rt:283:23
 enum-known-found : tie.Need-enum-known-found Inv-loop μ-loop
-enum-known-found c = ?
+enum-known-found c = search needs
 
--- src/answer.rt:284:13
 enum-told : tie.Need-enum-told Inv-loop μ-loop
-enum-told c = ?
+enum-told c = search needs
 
--- src/answer.rt:284:13
 returns-2 : tie.Need-returns-2 Inv-loop μ-loop
-returns-2 c = ?
+returns-2 c = walk-fails (walk-nowhere (c .before .before .before .before .before .before .before .loop .inv .0) (c .before .before .before .before .before .before .before .before .before .before .before .before .pre .1 .1) (c .before .before .before .before .before .before .loop-test .taken) (c .before .before .before .before .wide2 .ensures .0) (sym (c .enum-told .given .1) ∙ c .before .before .find-arc .ensures))
 
--- src/answer.rt:286:25
 mul-arc-totals : tie.Need-mul-arc-totals Inv-loop μ-loop
-mul-arc-totals c = ?
+mul-arc-totals c = omega (arith, (found-arc _ _ _ _ (sym (c .before .found .given .1) ∙ c .before .before .before .find-arc .ensures) .inside), (c .before .before .before .before .before .before .before .before .before .before .before .before .before .pre .0 .0 .arcs) .header .few-arcs)
 
--- src/answer.rt:286:25
 element-copy-out-arc-totals : tie.Need-element-copy-out-arc-totals Inv-loop μ-loop
-element-copy-out-arc-totals c = ?
+element-copy-out-arc-totals c = omega (arith, (found-arc _ _ _ _ (sym (c .before .found .given .1) ∙ c .before .before .before .find-arc .ensures) .inside), (c .before .before .before .before .before .before .before .before .before .before .before .before .before .pre .0 .0 .arcs) .header .few-arcs)
 
--- src/answer.rt:286:25
 add-arc-totals : tie.Need-add-arc-totals Inv-loop μ-loop
-add-arc-totals c = ?
+add-arc-totals c = omega (arith, arc-room (c .before .before .before .before .before .before .before .before .before .loop .inv .0) (c .before .before .before .before .before .before .before .before .before .before .before .before .before .before .pre .1 .1) (c .before .before .before .before .before .before .before .before .before .before .before .before .before .before .pre .1 .0) (c .before .before .before .before .before .before .before .before .before .before .before .before .before .before .pre .1 .2) _ (found-arc _ _ _ _ (sym (c .before .before .found .given .1) ∙ c .before .before .before .before .find-arc .ensures) .inside), (c .before .before .before .before .before .before .before .before .before .before .before .before .before .before .pre .1 .2) .low-weight)
 
--- src/answer.rt:286:9
 mul-arc-totals-2 : tie.Need-mul-arc-totals-2 Inv-loop μ-loop
-mul-arc-totals-2 c = ?
+mul-arc-totals-2 c = omega (arith, (found-arc _ _ _ _ (sym (c .before .before .found .given .1) ∙ c .before .before .before .before .find-arc .ensures) .inside), (c .before .before .before .before .before .before .before .before .before .before .before .before .before .before .pre .0 .0 .arcs) .header .few-arcs)
 
--- src/answer.rt:286:9
 element-write-arc-totals : tie.Need-element-write-arc-totals Inv-loop μ-loop
-element-write-arc-totals c = ?
+element-write-arc-totals c = omega (arith, (found-arc _ _ _ _ (sym (c .before .before .found .given .1) ∙ c .before .before .before .before .find-arc .ensures) .inside), (c .before .before .before .before .before .before .before .before .before .before .before .before .before .before .pre .0 .0 .arcs) .header .few-arcs)
 
--- src/answer.rt:287:28
 mul-vertex-totals : tie.Need-mul-vertex-totals Inv-loop μ-loop
-mul-vertex-totals c = ?
+mul-vertex-totals c = omega arith
 
--- src/answer.rt:287:28
 element-copy-out-vertex-totals : tie.Need-element-copy-out-vertex-totals Inv-loop μ-loop
-element-copy-out-vertex-totals c = ?
+element-copy-out-vertex-totals c = omega (arith, (c .before .before .before .before .before .before .before .before .before .before .before .before .before .before .pre .0 .0 .arcs) .header .few-vertices)
 
--- src/answer.rt:287:28
 add-vertex-totals : tie.Need-add-vertex-totals Inv-loop μ-loop
-add-vertex-totals c = ?
+add-vertex-totals c = omega (arith, vertex-room (c .before .before .before .before .before .before .before .before .before .before .loop .inv .0) (c .before .before .before .before .before .before .before .before .before .before .before .before .before .before .before .pre .1 .1) (c .before .before .before .before .before .before .before .before .before .before .before .before .before .before .before .pre .1 .0) (c .before .before .before .before .before .before .before .before .before .before .before .before .before .before .before .pre .1 .2) (c .before .before .before .before .before .before .before .wide2 .result) (omega (arith, (c .before .before .before .before .before .before .before .before .before .before .before .before .before .before .before .pre .0 .0 .arcs) .header .few-vertices)), (c .before .before .before .before .before .before .before .before .before .before .before .before .before .before .before .pre .1 .2) .low-weight)
 
--- src/answer.rt:287:9
 mul-vertex-totals-2 : tie.Need-mul-vertex-totals-2 Inv-loop μ-loop
-mul-vertex-totals-2 c = ?
+mul-vertex-totals-2 c = omega arith
 
--- src/answer.rt:287:9
 element-write-vertex-totals : tie.Need-element-write-vertex-totals Inv-loop μ-loop
-element-write-vertex-totals c = ?
+element-write-vertex-totals c = omega (arith, (c .before .before .before .before .before .before .before .before .before .before .before .before .before .before .before .pre .0 .0 .arcs) .header .few-vertices)
 
--- src/answer.rt:288:17
 cost-of-requires : tie.Need-cost-of-requires Inv-loop μ-loop
-cost-of-requires c κs = ?
+cost-of-requires c κs = (c .before .before .before .before .before .before .before .before .before .before .before .before .before .before .before .pre .0 .0, search needs, (found-arc _ _ _ _ (sym (c .before .before .before .found .given .1) ∙ c .before .before .before .before .before .find-arc .ensures) .inside))
 
--- src/answer.rt:288:9
 add-cost : tie.Need-add-cost Inv-loop μ-loop
-add-cost c = ?
+add-cost c = omega (arith, (c .before .before .before .before .before .before .before .before .before .before .before .loop .inv .0) .within, c .cost-of .ensures .1, (c .before .before .before .before .before .before .before .before .before .before .before .before .before .before .before .before .pre .1 .0))
 
--- src/answer.rt:290:9
 add-j : tie.Need-add-j Inv-loop μ-loop
-add-j c = ?
+add-j c = search needs
 
--- src/answer.rt:277:5
 loop-less : tie.Need-loop-less Inv-loop μ-loop
-loop-less c = ?
+loop-less c = search needs
 
--- src/answer.rt:277:5
 loop-again : tie.Need-loop-again Inv-loop μ-loop
-loop-again c = ?
+loop-again c = (walk-turn (c .before .before .before .before .before .before .before .before .before .before .before .loop .inv .0) (c .before .before .before .before .before .before .before .before .before .before .before .before .before .before .before .before .pre .1 .1) (c .before .before .before .before .before .before .before .before .before .before .loop-test .taken) (c .before .before .before .before .before .before .before .before .wide2 .ensures .0) (c .before .before .before .before .before .before .before .before .before .before .before .before .before .before .before .before .pre .0 .0 .arcs) (sym (c .before .before .before .before .found .given .1) ∙ c .before .before .before .before .before .before .find-arc .ensures) (search needs) (c .cost-of .ensures .0) (c .cost-of .ensures .1), search needs)
 
--- src/answer.rt:292:9
 is-end-requires : tie.Need-is-end-requires Inv-loop μ-loop
-is-end-requires c κs = ?
+is-end-requires c κs = search needs
 
--- src/answer.rt:268:1
 returns-3 : tie.Need-returns-3 Inv-loop μ-loop
-returns-3 c = ?
+returns-3 c = walk-end (c .before .before .loop .inv .0) (search needs) (search needs) (c .is-end .ensures)
 
 pub walk-on-spec : {M : Type 1} → statement M
 walk-on-spec =
