@@ -9,6 +9,7 @@ pub mod ArcLaws
 -- Laws that the proofs of functions cite.
 pub mod TableLaws
 pub mod OverlapLaws
+pub mod CertifyLawsTable
 pub mod CertifyLawsSlack
 pub mod CertifyLaws
 pub mod WalkLaws

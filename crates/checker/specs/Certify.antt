@@ -7,19 +7,21 @@ use lib.Dec.{T, ltb, leb}
 use lib.ListN.{length, getD}
 use lib.IntN.{ℤ, natAbs}
 use Rattle.mathematics.specs.Price.{whole}
-use Rattle.mathematics.specs.Cover.{vert, arc}
+use Rattle.mathematics.specs.Lists.{All}
+use Rattle.mathematics.specs.Cover.{vert}
 use Rattle.mathematics.specs.Bound.{readsThrough, vertexSlack, arcSlack, vertexSlacksHold, arcSlackHolds}
-use Rattle.checker.specs.GraphForm.{vertexCount, arcCount, vertexDemand, arcAt, arcTail, arcHead, arcDemand}
+use Rattle.checker.specs.GraphForm.{vertexCount, arcCount, vertexDemand, arcAt, arcDemand}
 use Rattle.checker.specs.GraphOf.{vertexOf, arcOf, graphOf}
 use Rattle.checker.specs.AnswerForm.{inMarkAt, outMarkAt, firstPathAt, marksOf}
 use Rattle.checker.specs.AnswerFaults.{markFault}
+use Rattle.checker.specs.Tallies.{arcItem}
 
 -- "Item" counts vertices, then arcs, then reads, from 0: the item of arc a, and of read r
-abbrev pub arcItem : List ℕ → ℕ → ℕ
-arcItem s a = vertexCount s + a
+abbrev pub arcPlace : List ℕ → ℕ → ℕ
+arcPlace s a = vertexCount s + a
 
-abbrev pub readItem : List ℕ → ℕ → ℕ
-readItem s r = vertexCount s + arcCount s + r
+abbrev pub readPlace : List ℕ → ℕ → ℕ
+readPlace s r = vertexCount s + arcCount s + r
 
 -- 19: the demand of vertex v or of arc a against the weights tallied for it; read r against its flag
 unfoldable pub vertexUnmet : List ℕ → List ℕ → ℕ → ℕ
@@ -52,7 +54,7 @@ pub record NoneBelow (s t : List ℕ) : Type 0 where
 -- how many of the reads rs pass each vertex and each arc of the form
 pub record Counted (s : List ℕ) (rs : List (List ℕ)) (vertexReads arcReads : List ℕ) : Type 0 where
   pub vertices : (v : ℕ) → v < vertexCount s → getD vertexReads v 0 ≡ readsThrough (vert v) rs
-  pub arcs : (a : ℕ) → a < arcCount s → getD arcReads a 0 ≡ readsThrough (arc (arcTail s (arcAt s a)) (arcHead s (arcAt s a))) rs
+  pub arcs : (a : ℕ) → a < arcCount s → getD arcReads a 0 ≡ readsThrough (arcItem s a) rs
 
 -- 22: what vertex v and arc a add to the bound, whose slacks are not below 0: its demand, or the prepared reads through it where those are more, times its slack
 unfoldable pub vertexPart : List ℕ → List ℕ → List ℕ → ℕ → ℕ
@@ -65,3 +67,9 @@ arcPart s t counts a = max (arcDemand s (arcAt s a)) (getD counts a 0) * natAbs 
 unfoldable pub sumFrom : (ℕ → ℕ) → ℕ → ℕ → ℕ
 sumFrom f zero first = 0
 sumFrom f (suc count) first = f first + sumFrom f count (suc first)
+
+-- a table of reads, whatever is in it: 16 rows of 64, and 16 lengths
+pub record TableSized (rows : List (List ℕ)) (lens : List ℕ) : Type 0 where
+  pub tall : length rows ≡ 16
+  pub wide : All (λ r. length r ≡ 64) rows
+  pub sized : length lens ≡ 16

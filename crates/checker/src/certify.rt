@@ -8,26 +8,28 @@ use crate::bytes::be32;
 use crate::bytes::wide;
 ghost use mathlib.Core.Path.{_≡_};
 ghost use Prim.Native.Nat.{ℕ, _+_, _*_, _<_, _≤_};
-ghost use lib.ListN.{length, getD};
+ghost use lib.ListN.{length, getD, take};
 ghost use lib.IntN.{natAbs};
 ghost use Rattle.mathematics.specs.Price.{whole};
 ghost use Rattle.mathematics.specs.Bound.{vertexSlack, arcSlack};
 ghost use Rattle.checker.specs.GraphForm.{vertexCount, arcCount, readCount};
-ghost use Rattle.checker.specs.GraphOf.{arcOf};
+ghost use Rattle.checker.specs.Bytes.{part};
+ghost use Rattle.checker.specs.GraphOf.{graphOf, arcOf};
+ghost use Rattle.checker.specs.ReadTable.{Leaves};
 ghost use Rattle.checker.specs.GraphReads.{Reads};
 ghost use Rattle.checker.specs.GraphFaults.{firstFault};
 ghost use Rattle.checker.specs.AnswerForm.{marksOf};
-ghost use Rattle.checker.specs.Certify.{arcItem, readItem, vertexUnmet, arcUnmet, readUnmet, vertexSlackFault, arcSlackFault, MarksStand, NoneBelow, vertexPart, arcPart, sumFrom};
+ghost use Rattle.checker.specs.Certify.{TableSized, arcPlace, readPlace, vertexUnmet, arcUnmet, readUnmet, vertexSlackFault, arcSlackFault, MarksStand, NoneBelow, vertexPart, arcPart, sumFrom};
 
 // The first vertex whose demand is above the weights of the paths through it.
-fn vertices_unmet(s: &[u8], totals: &[u64; 64]) -> Verdict
+fn vertices_unmet(s: &[u8], totals: &[usize; 64]) -> Verdict
     requires { ⌜ Reads (now s) ⌝ }
     ensures { λ r. ⌜ r ≡ firstFault (vertexUnmet (now (s .entry)) (now (totals .entry))) (λ v. v) (vertexCount (now (s .entry))) 0 ⌝ }
 {
     let n = wide(s[5]);
     let mut v = 0;
     while v < n {
-        if totals[v] < be32(s, Graph::HEADER + Graph::VERTEX * v + 1) as u64 {
+        if totals[v] < be32(s, Graph::HEADER + Graph::VERTEX * v + 1) {
             return Verdict::new(19, v);
         }
         v += 1;
@@ -36,16 +38,16 @@ fn vertices_unmet(s: &[u8], totals: &[u64; 64]) -> Verdict
 }
 
 // The first arc whose demand is above the weights of the paths through it.
-fn arcs_unmet(s: &[u8], totals: &[u64; 256]) -> Verdict
+fn arcs_unmet(s: &[u8], totals: &[usize; 256]) -> Verdict
     requires { ⌜ Reads (now s) ⌝ }
-    ensures { λ r. ⌜ r ≡ firstFault (arcUnmet (now (s .entry)) (now (totals .entry))) (arcItem (now (s .entry))) (arcCount (now (s .entry))) 0 ⌝ }
+    ensures { λ r. ⌜ r ≡ firstFault (arcUnmet (now (s .entry)) (now (totals .entry))) (arcPlace (now (s .entry))) (arcCount (now (s .entry))) 0 ⌝ }
 {
     let n = wide(s[5]);
     let count = be16(s, 6);
     let base = Graph::HEADER + Graph::VERTEX * n;
     let mut a = 0;
     while a < count {
-        if totals[a] < be32(s, base + Graph::ARC * a + 6) as u64 {
+        if totals[a] < be32(s, base + Graph::ARC * a + 6) {
             return Verdict::new(19, n + a);
         }
         a += 1;
@@ -56,7 +58,7 @@ fn arcs_unmet(s: &[u8], totals: &[u64; 256]) -> Verdict
 // The first read that no path holds.
 fn reads_unmet(s: &[u8], met: &[bool; 16]) -> Verdict
     requires { ⌜ Reads (now s) ⌝ }
-    ensures { λ r. ⌜ r ≡ firstFault (readUnmet (now (met .entry))) (readItem (now (s .entry))) (readCount (now (s .entry))) 0 ⌝ }
+    ensures { λ r. ⌜ r ≡ firstFault (readUnmet (now (met .entry))) (readPlace (now (s .entry))) (readCount (now (s .entry))) 0 ⌝ }
 {
     let count = wide(s[8]);
     let mut r = 0;
@@ -127,7 +129,7 @@ fn arc_slack_fault(s: &[u8], t: &[u8], n: usize, a: usize) -> usize
 // The first arc with a slack below 0.
 fn arc_slacks(s: &[u8], t: &[u8]) -> Verdict
     requires { ⌜ Reads (now s) × MarksStand (vertexCount (now s)) (now t) ⌝ }
-    ensures { λ r. ⌜ r ≡ firstFault (arcSlackFault (now (s .entry)) (now (t .entry))) (arcItem (now (s .entry))) (arcCount (now (s .entry))) 0 ⌝ }
+    ensures { λ r. ⌜ r ≡ firstFault (arcSlackFault (now (s .entry)) (now (t .entry))) (arcPlace (now (s .entry))) (arcCount (now (s .entry))) 0 ⌝ }
 {
     let n = wide(s[5]);
     let count = be16(s, 6);
@@ -140,4 +142,37 @@ fn arc_slacks(s: &[u8], t: &[u8]) -> Verdict
         a += 1;
     }
     Verdict::new(0, 0)
+}
+
+// The read of len vertices at an offset, as a row of the table of reads.
+fn row_of(s: &[u8], at: usize, len: usize) -> [u8; 64]
+    requires { ⌜ (at + len ≤ length (now s)) × (len ≤ 64) ⌝ }
+    ensures { λ r. ⌜ (take len r ≡ part (now (s .entry)) at len) × (length r ≡ 64) ⌝ }
+{
+    let mut row = [0u8; 64];
+    let mut i = 0;
+    while i < len {
+        row[i] = s[at + i];
+        i += 1;
+    }
+    row
+}
+
+// Fills the table of reads with the reads of the form; gives how many there are.
+pub fn load_reads(s: &[u8], rows: &mut [[u8; 64]; 16], lens: &mut [usize; 16]) -> usize
+    requires { ⌜ Reads (now s) × TableSized (now rows) (now lens) ⌝ }
+    ensures { λ r. ⌜ Leaves (now (rows .exit)) (now (lens .exit)) r (graphOf (now (s .entry)) .reads) ⌝ }
+{
+    let count = wide(s[8]);
+    let mut at = Graph::HEADER + Graph::VERTEX * wide(s[5]) + Graph::ARC * be16(s, 6);
+    let mut i = 0;
+    while i < count {
+        let len = wide(s[at]);
+        let row = row_of(s, at + 1, len);
+        rows[i] = row;
+        lens[i] = len;
+        at = at + 1 + len;
+        i += 1;
+    }
+    count
 }

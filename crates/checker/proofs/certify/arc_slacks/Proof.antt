@@ -3,14 +3,14 @@ use Prim.Native.Nat.{_-_, _≤_}
 use mathlib.Core.Path.{_≡_, _∙_, refl}
 use Rattle.checker.specs.GraphForm.{vertexCount, arcCount}
 use Rattle.checker.specs.GraphFaults.{firstFault}
-use Rattle.checker.specs.Certify.{arcSlackFault, arcItem}
+use Rattle.checker.specs.Certify.{arcSlackFault, arcPlace}
 use Rattle.checker.proofs.Scan.{scan-begins, scan-turns, scan-stops, scan-ends}
 use borrow.Author.Needs.{needs}
 use Rattle.checker.proofs.certify.arc_slacks.Statement.{statement}
 use Rattle.checker.proofs.certify.arc_slacks.Tie as tie
 
 abbrev Inv-loop : tie.InvT-loop
-Inv-loop s t n count a₀ a = (n ≡ vertexCount s) × (count ≡ arcCount s) × (a ≤ count) × (firstFault (arcSlackFault s t) (arcItem s) (arcCount s) 0 ≡ firstFault (arcSlackFault s t) (arcItem s) (arcCount s - a) a)
+Inv-loop s t n count a₀ a = (n ≡ vertexCount s) × (count ≡ arcCount s) × (a ≤ count) × (firstFault (arcSlackFault s t) (arcPlace s) (arcCount s) 0 ≡ firstFault (arcSlackFault s t) (arcPlace s) (arcCount s - a) a)
 
 abbrev μ-loop : tie.MeasureT-loop
 μ-loop s t n count a₀ a = count - a

@@ -4,7 +4,7 @@ use mathlib.Core.Path.{_≡_, _∙_, refl}
 use native.Mathlib.Omega.{arith}
 use Rattle.checker.specs.GraphForm.{vertexCount, arcCount}
 use Rattle.checker.specs.GraphFaults.{firstFault}
-use Rattle.checker.specs.Certify.{arcUnmet, arcItem}
+use Rattle.checker.specs.Certify.{arcUnmet, arcPlace}
 use Rattle.checker.proofs.Scan.{scan-begins, scan-turns, scan-stops, scan-ends}
 use Rattle.checker.proofs.CertifyLaws.{arc-unmet, arc-met}
 use borrow.Author.Needs.{needs}
@@ -12,7 +12,7 @@ use Rattle.checker.proofs.certify.arcs_unmet.Statement.{statement}
 use Rattle.checker.proofs.certify.arcs_unmet.Tie as tie
 
 abbrev Inv-loop : tie.InvT-loop
-Inv-loop s totals n count base a₀ a = (n ≡ vertexCount s) × (base ≡ 13 + 5 * vertexCount s) × (count ≡ arcCount s) × (a ≤ count) × (firstFault (arcUnmet s totals) (arcItem s) (arcCount s) 0 ≡ firstFault (arcUnmet s totals) (arcItem s) (arcCount s - a) a)
+Inv-loop s totals n count base a₀ a = (n ≡ vertexCount s) × (base ≡ 13 + 5 * vertexCount s) × (count ≡ arcCount s) × (a ≤ count) × (firstFault (arcUnmet s totals) (arcPlace s) (arcCount s) 0 ≡ firstFault (arcUnmet s totals) (arcPlace s) (arcCount s - a) a)
 
 abbrev μ-loop : tie.MeasureT-loop
 μ-loop s totals n count base a₀ a = count - a

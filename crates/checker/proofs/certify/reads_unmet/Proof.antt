@@ -5,7 +5,7 @@ use mathlib.Core.Path.{_≡_, _∙_, refl}
 use native.Mathlib.Omega.{arith}
 use Rattle.checker.specs.GraphForm.{readCount}
 use Rattle.checker.specs.GraphFaults.{firstFault}
-use Rattle.checker.specs.Certify.{readUnmet, readItem}
+use Rattle.checker.specs.Certify.{readUnmet, readPlace}
 use Rattle.checker.proofs.Scan.{scan-begins, scan-turns, scan-stops, scan-ends}
 use Rattle.checker.proofs.CertifyLaws.{read-unmet, read-met}
 use borrow.Author.Needs.{needs}
@@ -13,7 +13,7 @@ use Rattle.checker.proofs.certify.reads_unmet.Statement.{statement}
 use Rattle.checker.proofs.certify.reads_unmet.Tie as tie
 
 abbrev Inv-loop : tie.InvT-loop
-Inv-loop s met count r₀ r = (count ≡ readCount s) × (r ≤ count) × (firstFault (readUnmet met) (readItem s) (readCount s) 0 ≡ firstFault (readUnmet met) (readItem s) (readCount s - r) r)
+Inv-loop s met count r₀ r = (count ≡ readCount s) × (r ≤ count) × (firstFault (readUnmet met) (readPlace s) (readCount s) 0 ≡ firstFault (readUnmet met) (readPlace s) (readCount s - r) r)
 
 abbrev μ-loop : tie.MeasureT-loop
 μ-loop s met count r₀ r = count - r
