@@ -9,7 +9,7 @@ use lib.IntN.{pos}
 use Rattle.mathematics.specs.Price.{whole}
 use Rattle.mathematics.specs.Lists.{lastOf, holds}
 use Rattle.mathematics.specs.Graph.{linked, isPath, isEnd}
-use Rattle.mathematics.specs.Cover.{Item, vert, arc, countOf, through, arcCosts}
+use Rattle.mathematics.specs.Cover.{Item, vert, arc, countOf, trail, arcCosts}
 use Rattle.checker.specs.Limits.{maxVertices, maxArcs, maxReads, maxCost, maxWeight, maxPathLength}
 use Rattle.checker.specs.GraphForm.{vertexCount, arcCount, arcAt, arcTail, arcHead, readCount, firstReadAt}
 use Rattle.checker.specs.GraphOf.{graphOf, arcsOf, readsFrom}
@@ -39,13 +39,13 @@ onward u (v ∷ q) = arc u v ∷ vert v ∷ onward v q
 unfoldable pub goesOnTo : List ℕ → ℕ → List ℕ → Bool
 goesOnTo s u q = allBelow (vertexCount s) q && (linked (arcsOf s) (u ∷ q) && isEnd (graphOf s) (lastOf u q))
 
--- the totals of vertices and of arcs have room for the weight of one more path
-pub record Room (s vertexTotals arcTotals : List ℕ) (weight : ℕ) : Type 0 where
+-- the totals of vertices and of arcs are as many as there can be, and have room for the weight of one more path
+pub record Room (s vertexTotals arcTotals : List ℕ) (weight times : ℕ) : Type 0 where
   pub low-weight : weight ≤ maxWeight
   pub vertices-long : length vertexTotals ≡ maxVertices
   pub arcs-long : length arcTotals ≡ maxArcs
-  pub vertices-low : (v : ℕ) → v < maxVertices → getD vertexTotals v 0 ≤ 128 * maxWeight
-  pub arcs-low : (k : ℕ) → k < arcCount s → getD arcTotals k 0 ≤ 128 * maxWeight
+  pub vertices-low : (v : ℕ) → v < maxVertices → getD vertexTotals v 0 ≤ times * maxWeight
+  pub arcs-low : (k : ℕ) → k < arcCount s → getD arcTotals k 0 ≤ times * maxWeight
 
 -- the total of each vertex and each arc has grown by the weight as often as it is among the items
 pub record Grown (s : List ℕ) (weight : ℕ) (items : List Item) (vb va ab aa : List ℕ) : Type 0 where
@@ -60,3 +60,7 @@ pub record Walked (s : List ℕ) (right : Bool) (items : List Item) (p : List �
   pub grown : ok ≡ true → Grown s weight items vb va ab aa
   pub costs : ok ≡ true → pos cost ≡ arcCosts whole (arcsOf s) p
   pub low-cost : ok ≡ true → cost ≤ maxCost * maxPathLength
+
+-- what walking along a whole path gives
+abbrev pub PathWalked : List ℕ → List ℕ → ℕ → List ℕ → List ℕ → List ℕ → List ℕ → Bool → ℕ → Type 0
+PathWalked s p = Walked s (allBelow (vertexCount s) p && isPath (graphOf s) p) (trail p) p
