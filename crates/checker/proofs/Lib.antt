@@ -1,1 +1,4 @@
 pub mod Accepted
+pub mod Ascending
+pub mod ReadGives
+pub mod Soundness
