@@ -2,3 +2,4 @@ pub mod Accepted
 pub mod Ascending
 pub mod ReadGives
 pub mod Soundness
+pub mod Encoding

@@ -6,3 +6,4 @@ pub mod GraphOf
 pub mod AnswerForm
 pub mod AnswerFaults
 pub mod Check
+pub mod Encode
