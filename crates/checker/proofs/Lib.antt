@@ -3,3 +3,4 @@ pub mod Ascending
 pub mod ReadGives
 pub mod Soundness
 pub mod Encoding
+pub mod Rows
