@@ -81,42 +81,42 @@ marks-length : (m : Marks ℤ) (count v : ℕ) → length (markBytes m count v) 
 marks-length m zero v = refl
 marks-length m (suc count) v = let e = marks-length m count (suc v) in omega arith
 
+-- the record of a path
+abbrev pub pathRecord : Weighted → List ℕ
+pathRecord w = bytes32 (w .weight) ++ (length (w .path) ∷ w .path)
+
+-- a path record that stands behind p, read back field by field
+module _ (w : Weighted) (W : List Weighted) (p : List ℕ) (at : ℕ) (e : length p ≡ at) where
+  at-front : (k : ℕ) → at + k ≡ length p + k
+  at-front k = ap (λ a. a + k) (sym e)
+
+  pub record-weight : pathWeight (p ++ pathBytes (w ∷ W)) at ≡ w .weight
+  record-weight =
+      ap (be32 (p ++ pathBytes (w ∷ W))) (let z : at ≡ length p + 0 = omega arith in z) ∙
+      (be32-behind p (pathBytes (w ∷ W)) 0 ∙ be32-bytes32 (w .weight) _)
+
+  pub record-length : pathLength (p ++ pathBytes (w ∷ W)) at ≡ length (w .path)
+  record-length = ap (byte (p ++ pathBytes (w ∷ W))) (at-front 4) ∙ byte-behind p (pathBytes (w ∷ W)) 4
+
+  pub record-path : pathVertices (p ++ pathBytes (w ∷ W)) at ≡ w .path
+  record-path =
+      ap₂ (λ c k. take c (drop k (p ++ pathBytes (w ∷ W)))) record-length (at-front 5) ∙
+      (ap (take (length (w .path))) (drop-append-add p (pathBytes (w ∷ W)) 5) ∙ take-append-seam (w .path) (pathBytes W))
+
+  -- what follows the record stands behind p and the record
+  pub record-end : length (p ++ pathRecord w) ≡ pathEnd (p ++ pathBytes (w ∷ W)) at
+  record-end = let l = length-append p (pathRecord w) in let c = record-length in omega arith
+
+  pub record-split : p ++ pathBytes (w ∷ W) ≡ (p ++ pathRecord w) ++ pathBytes W
+  record-split = sym (append-assoc p (pathRecord w) (pathBytes W))
+
 -- the paths behind p read back
 paths-back : (W : List Weighted) (p : List ℕ) (at : ℕ) → length p ≡ at → pathsFrom (p ++ pathBytes W) (length W) at ≡ W
 paths-back [] p at e = refl
 paths-back (w ∷ W) p at e =
-    let t = p ++ pathBytes (w ∷ W) in
-    ap₂ {C = List Weighted} (λ x xs. x ∷ xs) (λ i. record { weight = weight i; path = path i })
-    (ap (λ a. pathsFrom t (length W) a) end ∙
-    (ap (λ u. pathsFrom u (length W) (length p + (5 + length (w .path)))) split ∙ paths-back W (p ++ one) (length p + (5 + length (w .path))) long))
-  where
-    one : List ℕ
-    one = bytes32 (w .weight) ++ (length (w .path) ∷ w .path)
-
-    at-front : (k : ℕ) → at + k ≡ length p + k
-    at-front k = ap (λ a. a + k) (sym e)
-
-    weight : be32 (p ++ pathBytes (w ∷ W)) at ≡ w .weight
-    weight =
-        ap (be32 (p ++ pathBytes (w ∷ W))) (let z : at ≡ length p + 0 = omega arith in z) ∙
-        (be32-behind p (pathBytes (w ∷ W)) 0 ∙ be32-bytes32 (w .weight) _)
-
-    count : pathLength (p ++ pathBytes (w ∷ W)) at ≡ length (w .path)
-    count = ap (byte (p ++ pathBytes (w ∷ W))) (at-front 4) ∙ byte-behind p (pathBytes (w ∷ W)) 4
-
-    path : pathVertices (p ++ pathBytes (w ∷ W)) at ≡ w .path
-    path =
-        ap₂ (λ c k. take c (drop k (p ++ pathBytes (w ∷ W)))) count (at-front 5) ∙
-        (ap (take (length (w .path))) (drop-append-add p (pathBytes (w ∷ W)) 5) ∙ take-append-seam (w .path) (pathBytes W))
-
-    end : pathEnd (p ++ pathBytes (w ∷ W)) at ≡ length p + (5 + length (w .path))
-    end = let c = count in omega arith
-
-    split : p ++ pathBytes (w ∷ W) ≡ (p ++ one) ++ pathBytes W
-    split = sym (append-assoc p one (pathBytes W))
-
-    long : length (p ++ one) ≡ length p + (5 + length (w .path))
-    long = length-append p one ∙ (let z : length p + length one ≡ length p + (5 + length (w .path)) = omega arith in z)
+    let end = pathEnd (p ++ pathBytes (w ∷ W)) at in
+    ap₂ {C = List Weighted} (λ x xs. x ∷ xs) (λ i. record { weight = record-weight w W p at e i; path = record-path w W p at e i })
+    (ap (λ u. pathsFrom u (length W) end) (record-split w W p at e) ∙ paths-back W (p ++ pathRecord w) end (record-end w W p at e))
 
 module _ (n price : ℕ) (m : Marks ℤ) (W : List Weighted) where
   -- the 15 bytes of the header
