@@ -23,10 +23,10 @@ before-cases x y p q t = at (or-cases (ltb x y) (eqb x y && listBefore p q) t)
     at (inl l) = inl (ltb→lt x y l)
     at (inr h) = inr (eqb→eq x y (and-l (eqb x y) (listBefore p q) h), and-r (eqb x y) (listBefore p q) h)
 
-before-less : (x y : ℕ) (p q : List ℕ) → x < y → T (listBefore (x ∷ p) (y ∷ q))
+pub before-less : (x y : ℕ) (p q : List ℕ) → x < y → T (listBefore (x ∷ p) (y ∷ q))
 before-less x y p q l = or-l (ltb x y) (eqb x y && listBefore p q) (lt→ltb x y l)
 
-before-same : (x y : ℕ) (p q : List ℕ) → x ≡ y → T (listBefore p q) → T (listBefore (x ∷ p) (y ∷ q))
+pub before-same : (x y : ℕ) (p q : List ℕ) → x ≡ y → T (listBefore p q) → T (listBefore (x ∷ p) (y ∷ q))
 before-same x y p q e t =
     or-r (ltb x y) (eqb x y && listBefore p q) (and-in (eqb x y) (listBefore p q) (subst (λ z. T (eqb x z)) e (eqb-refl x)) t)
 

@@ -7,3 +7,4 @@ pub mod Encoding
 pub mod Rows
 pub mod Inside
 pub mod MarksAgree
+pub mod Sorted

@@ -1,10 +1,12 @@
 -- Document 01, "The two forms, version 1", the other way round: the answer form of given marks and weighted paths at a stated price.
 use Prim.Native.Nat.{ℕ, zero, suc, _+_, _-_, _/_, _%_}
 use mathlib.Core.List.{List, [], _∷_, _++_}
+use mathlib.Core.Bool.{cond}
 use lib.ListN.{length}
 use lib.IntN.{ℤ, pos, negsuc}
 use Rattle.mathematics.specs.Cover.{Weighted}
 use Rattle.mathematics.specs.Bound.{Marks}
+use Rattle.checker.specs.AnswerFaults.{listBefore}
 
 -- "All numbers big-endian": a number in 2 bytes, in 4 bytes, in 8 bytes
 abbrev pub bytes16 : ℕ → List ℕ
@@ -38,3 +40,12 @@ afterLength n price m W = 1 ∷ (bytes16 (length W) ++ (bytes64 price ++ (markBy
 -- the answer form for a graph of n vertices; "the total length stands first and counts itself"
 unfoldable pub encodeAnswer : ℕ → ℕ → Marks ℤ → List Weighted → List ℕ
 encodeAnswer n price m W = bytes32 (4 + length (afterLength n price m W)) ++ afterLength n price m W
+
+-- "Paths strictly ascend as lists of numbers": a cover is a set, and this is its one order for an answer form
+abbrev pub insertPath : Weighted → List Weighted → List Weighted
+insertPath w [] = w ∷ []
+insertPath w (x ∷ W) = cond (listBefore (w .path) (x .path)) (w ∷ x ∷ W) (x ∷ insertPath w W)
+
+abbrev pub sorted : List Weighted → List Weighted
+sorted [] = []
+sorted (w ∷ W) = insertPath w (sorted W)
