@@ -152,14 +152,21 @@ module _ (n price : ℕ) (m : Marks ℤ) (W : List Weighted) where
       let l = marks-length m n 0 in
       omega arith
 
+  -- the path records stand behind header and marks
+  pub encoded-front : (p : List ℕ) × (length p ≡ firstPathAt n) × (encodeAnswer n price m W ≡ p ++ pathBytes W)
+  unfolding encodeAnswer header-bytes
+  encoded-front = (
+    header-bytes ++ markBytes m n 0,
+    (let l = marks-length m n 0 in omega arith),
+    sym (append-assoc header-bytes (markBytes m n 0) (pathBytes W)),
+  )
+
   -- the weighted paths read back
   pub encoded-cover : coverOf n (encodeAnswer n price m W) ≡ W
-  unfolding encodeAnswer coverOf header-bytes
+  unfolding coverOf
   encoded-cover =
-      let t = header-bytes ++ (markBytes m n 0 ++ pathBytes W) in
-      ap (λ c. pathsFrom t c (firstPathAt n)) encoded-path-count ∙
-      (ap (λ u. pathsFrom u (length W) (firstPathAt n)) (sym (append-assoc header-bytes (markBytes m n 0) (pathBytes W))) ∙
-      paths-back W (header-bytes ++ markBytes m n 0) (firstPathAt n) (let l = marks-length m n 0 in omega arith))
+      let (p, l, e) = encoded-front in
+      ap₂ (λ t c. pathsFrom t c (firstPathAt n)) e encoded-path-count ∙ paths-back W p (firstPathAt n) l
 
   -- and so does each mark of a vertex of the graph
   pub encoded-into : (v : ℕ) → v < n → InRange (m .into v) → marksOf (encodeAnswer n price m W) .into v ≡ m .into v

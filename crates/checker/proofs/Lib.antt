@@ -8,3 +8,5 @@ pub mod Rows
 pub mod Inside
 pub mod MarksAgree
 pub mod Sorted
+pub mod PriceNumber
+pub mod Completeness
