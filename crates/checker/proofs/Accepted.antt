@@ -36,7 +36,7 @@ passed-by true r after t = refl
 passed-by false r after t = absurd t
 
 -- a test that has to hold
-held : (b : Bool) (k at : ℕ) (after : Verdict) → cond b after (refusal (suc k) at) .number ≡ 0 → T b × (after .number ≡ 0)
+pub held : (b : Bool) (k at : ℕ) (after : Verdict) → cond b after (refusal (suc k) at) .number ≡ 0 → T b × (after .number ≡ 0)
 held true k at after e = (tt, e)
 held false k at after e = absurd (omega arith)
 
@@ -59,9 +59,9 @@ twice-not : (a : Bool) → T (not (not a)) → T a
 twice-not true t = tt
 twice-not false t = t
 
--- the graph's refusal comes before all of the answer's
-graph-first : (g a : Verdict) → cond (eqb (g .number) 0) a g .number ≡ 0 → (g .number ≡ 0) × (a .number ≡ 0)
-graph-first g a e = at (eqb (g .number) 0) refl e
+-- an earlier refusal comes before all later ones
+pub earlier-first : (g a : Verdict) → cond (eqb (g .number) 0) a g .number ≡ 0 → (g .number ≡ 0) × (a .number ≡ 0)
+earlier-first g a e = at (eqb (g .number) 0) refl e
   where
     at : (b : Bool) → eqb (g .number) 0 ≡ b → cond b a g .number ≡ 0 → (g .number ≡ 0) × (a .number ≡ 0)
     at true p e = (eqb-true _ _ p, e)
@@ -358,7 +358,7 @@ answer-passed s t h =
 pub number-zero-accepted : (s t : List ℕ) → checkVerdict s t .number ≡ 0 → Accepted s t
 unfolding checkVerdict
 number-zero-accepted s t e =
-    let h = graph-first (graphVerdict s) (answerVerdict s t) e in
+    let h = earlier-first (graphVerdict s) (answerVerdict s t) e in
     answer-read s t (h .0) (h .1)
 
 -- where each test passes nothing is refused: number and place are 0

@@ -10,3 +10,5 @@ pub mod MarksAgree
 pub mod Sorted
 pub mod PriceNumber
 pub mod Completeness
+pub mod HandedOut
+pub mod Determined
