@@ -1,22 +1,21 @@
 -- What an accepted answer is, condition by condition: the verdict's number is 0 exactly where each test of numbers 1 to 22 passes, and then the place is 0 too.
 -- Soundness reads the conditions off an accepted answer; completeness shows them of the answer that it writes.
-use Prim.Native.Nat.{ℕ, zero, suc, _+_, _*_, _≤_, _<_}
+use Prim.Native.Nat.{ℕ, zero, suc, _+_, _*_, _≤_}
 use native.Mathlib.Omega.{arith}
-use mathlib.Core.Path.{_≡_, refl, sym, ap, subst, _∙_}
+use mathlib.Core.Path.{_≡_, refl, _∙_}
 use mathlib.Core.List.{List, [], _∷_}
 use mathlib.Core.Bool.{Bool, true, false, cond, not, _&&_, _||_}
-use mathlib.Core.Logic.{_↔_}
-use lib.Dec.{T, ltb, leb, eqb, ltb→lt, nltb→le, leb→le, le→leb, eqb→eq, eqb-refl, eqb·suc-zero}
+use lib.Dec.{T, ltb, leb, eqb, nltb→le, leb→le, le→leb, eqb→eq, eqb·suc-zero}
 use borrow.Author.Tests.{le-ltb, eq-eqb, ne-eqb, eqb-true, eqb-false}
 use lib.ListN.{length}
-use lib.IntN.{ℤ, pos, negℤ}
+use lib.IntN.{pos, negℤ}
 use lib.Signed.{leZ}
 use Rattle.mathematics.specs.Price.{Prices, whole}
 use Rattle.mathematics.specs.Lists.{All, someHolds}
 use Rattle.mathematics.specs.Graph.{Vertex, Arc, Graph, isPath}
 use Rattle.mathematics.specs.Cover.{Ask, Weighted, asks, total, paths, price}
 use Rattle.mathematics.specs.Bound.{Marks, SlacksHold, VertexSlacksHold, vertexSlacksHold, arcSlackHolds, bound}
-use Rattle.mathematics.proofs.Basics.{and-l, and-r, and-in, is-true}
+use Rattle.mathematics.proofs.Basics.{is-true}
 use Rattle.checker.specs.declared.Verdict.{Verdict}
 use Rattle.checker.specs.Limits.{maxPaths, maxWeight, markLimit, maxPathLength}
 use Rattle.checker.specs.GraphForm.{vertexCount}

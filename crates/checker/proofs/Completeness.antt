@@ -2,18 +2,17 @@
 -- a cover exists some answer form is accepted. Document 01 shuts out by name "a builder or checker that refuses always (.. demand 3's acceptance of every
 -- lowest-price cover)".
 use Prim.Native.Nat.{ℕ, zero, suc, _+_, _*_, _≤_, _<_}
-use native.Mathlib.Nat.{mul-le-mul, le-refl}
+use native.Mathlib.Nat.{le-refl}
 use native.Mathlib.Omega.{arith}
-use mathlib.Core.Path.{_≡_, refl, sym, ap, subst, subst₂, _∙_}
+use mathlib.Core.Path.{_≡_, sym, ap, subst, subst₂, _∙_}
 use mathlib.Core.List.{List, [], _∷_, _++_}
-use mathlib.Core.Bool.{_&&_}
 use lib.Dec.{T}
 use lib.ListN.{length, length-append}
-use lib.IntN.{ℤ, pos, negℤ}
+use lib.IntN.{ℤ, pos}
 use lib.Signed.{leZ}
-use Rattle.mathematics.specs.Price.{Prices, Ordered, whole}
+use Rattle.mathematics.specs.Price.{Prices, whole}
 use Rattle.mathematics.specs.Lists.{All}
-use Rattle.mathematics.specs.Graph.{Arc, Graph, WellFormed, isPath}
+use Rattle.mathematics.specs.Graph.{Graph, WellFormed, isPath}
 use Rattle.mathematics.specs.Cover.{Weighted, totalWeight, paths, price, IsCover, IsLowest}
 use Rattle.mathematics.specs.Bound.{Marks, SlacksHold, bound}
 use Rattle.mathematics.specs.Exists.{Coverable}
@@ -27,10 +26,10 @@ use Rattle.checker.specs.Limits.{maxVertices, maxPaths, maxWeight, maxPa
 use Rattle.checker.specs.GraphForm.{vertexCount}
 use Rattle.checker.specs.GraphOf.{graphOf}
 use Rattle.checker.specs.GraphFaults.{nothingRefused, allBelow, graphVerdict}
-use Rattle.checker.specs.AnswerForm.{pathCount, statedPrice, markLength, inMarkAt, outMarkAt, signed32, marksOf, firstPathAt, pathWeight, pathVertices, pathEnd, coverOf}
+use Rattle.checker.specs.AnswerForm.{pathCount, markLength, inMarkAt, outMarkAt, marksOf, firstPathAt, pathWeight, pathVertices, pathEnd, coverOf}
 use Rattle.checker.specs.AnswerFaults.{listBefore}
 use Rattle.checker.specs.Check.{samePrice, checkVerdict}
-use Rattle.checker.specs.Encode.{pathBytes, markBytes, encodeAnswer, sorted}
+use Rattle.checker.specs.Encode.{pathBytes, encodeAnswer, sorted}
 use Rattle.checker.proofs.Accepted.{MarkRight, MarksRight, PathsRight, Certified, Accepted, accepted-nothing-refused}
 use Rattle.checker.proofs.Ascending.{Ascending}
 use Rattle.checker.proofs.ReadGives.{ReadGives, vertices-length}
@@ -38,7 +37,7 @@ use Rattle.checker.proofs.Encoding
 use Rattle.checker.proofs.Encoding.{InRange, Bytes, Holdable, pathRecord, record-weight, record-length, record-path, record-end, record-split}
 use Rattle.checker.proofs.Inside.{all-below, path-inside}
 use Rattle.checker.proofs.MarksAgree.{slacks-agree, bound-agrees}
-use Rattle.checker.proofs.PriceNumber.{AtMost, price-at-most}
+use Rattle.checker.proofs.PriceNumber.{price-at-most}
 use Rattle.checker.proofs.Sorted.{sorted-lowest, sorted-length, sorted-weight, sorted-ascends}
 
 -- marks in range at each vertex from k on are marks of the form in range

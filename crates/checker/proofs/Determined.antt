@@ -1,8 +1,8 @@
 -- Each public call's promise determines its result: any two results allowed are equal. And the numbers that can come, and the place where nothing is refused.
 -- "Each public call's promise determines number, place and all bytes lent to it, for each input, refused or not"
-use Prim.Native.Nat.{ℕ, zero, suc, _+_, _*_, _≤_, _<_}
+use Prim.Native.Nat.{ℕ, zero, suc, _+_, _*_, _≤_}
 use native.Mathlib.Omega.{arith}
-use mathlib.Core.Path.{_≡_, refl, sym, ap, subst, _∙_}
+use mathlib.Core.Path.{_≡_, refl, sym, ap, _∙_}
 use mathlib.Core.List.{List, [], _∷_}
 use mathlib.Core.Bool.{Bool, true, false, cond, not, _&&_, _||_}
 use mathlib.Core.Logic.{_⊎_, inl, inr}
@@ -10,7 +10,7 @@ use lib.Dec.{T, ltb, leb, eqb, leb→le}
 use borrow.Author.Tests.{eq-eqb, lt-ltb}
 use Rattle.mathematics.proofs.Basics.{and-l, and-r}
 use lib.ListN.{length}
-use lib.IntN.{ℤ, pos, negℤ}
+use lib.IntN.{pos, negℤ}
 use lib.Signed.{leZ}
 use Rattle.mathematics.specs.Price.{Prices, whole}
 use Rattle.mathematics.specs.Lists.{someHolds}

@@ -1,12 +1,12 @@
 -- Reading back what `encodeAnswer` writes gives the same paths, price and marks; its length is stated rightly, and within the limits each entry is a byte.
 use Prim.Native.Nat.{ℕ, zero, suc, _+_, _*_, _-_, _/_, _%_, _≤_, _<_}
-use native.Mathlib.Nat.{add-assoc, mul-suc}
+use native.Mathlib.Nat.{add-assoc}
 use native.Mathlib.Omega.{arith}
-use mathlib.Core.Path.{_≡_, refl, sym, ap, ap₂, subst, _∙_}
+use mathlib.Core.Path.{_≡_, refl, sym, ap, ap₂, _∙_}
 use mathlib.Core.List.{List, [], _∷_, _++_, append-assoc}
-use mathlib.Core.Bool.{Bool, true, false, cond}
+use mathlib.Core.Bool.{cond}
 use lib.Dec.{T, ltb, leb→le}
-use lib.ListN.{length, getD, take, drop, length-append}
+use lib.ListN.{length, take, drop, length-append}
 use lib.Seq.{getD-append-add, drop-append-add, take-append-seam}
 use lib.IntN.{ℤ, pos, negsuc, negℤ}
 use lib.Signed.{leZ}
@@ -15,9 +15,9 @@ use Rattle.mathematics.specs.Lists.{All}
 use Rattle.mathematics.specs.Cover.{Weighted}
 use Rattle.mathematics.specs.Bound.{Marks}
 use Rattle.mathematics.proofs.Basics.{all-append}
-use Rattle.checker.specs.Bytes.{byte, be16, be32, be64, part}
+use Rattle.checker.specs.Bytes.{byte, be16, be32, be64}
 use Rattle.checker.specs.Limits.{maxPaths, markLimit, maxPathLength, maxVertices}
-use Rattle.checker.specs.AnswerForm.{answerLengthWord, answerVersion, pathCount, statedPrice, inMarkAt, outMarkAt, signed32, marksOf, firstPathAt, pathWeight, pathLength, pathVertices, pathEnd, pathOf, pathsFrom, coverOf}
+use Rattle.checker.specs.AnswerForm.{answerLengthWord, answerVersion, pathCount, statedPrice, inMarkAt, outMarkAt, signed32, marksOf, firstPathAt, pathWeight, pathLength, pathVertices, pathEnd, pathsFrom, coverOf}
 use Rattle.checker.specs.Encode.{bytes16, bytes32, bytes64, word32, markBytes, pathBytes, afterLength, encodeAnswer}
 
 -- the bytes behind p are those of q

@@ -3,21 +3,20 @@
 use Prim.Native.Nat.{ℕ, zero, suc, _+_, _≤_, _<_}
 use native.Mathlib.Omega.{arith}
 use mathlib.Core.Path.{_≡_, refl, sym, ap, subst, _∙_}
-use mathlib.Core.List.{List, [], _∷_}
-use mathlib.Core.Bool.{Bool, true, false, cond}
-use lib.Dec.{T, ltb, eqb, ltb→lt}
+use mathlib.Core.List.{List, []}
+use mathlib.Core.Bool.{cond}
+use lib.Dec.{ltb, ltb→lt}
 use lib.ListN.{length, getD}
 use borrow.Author.Tests.{eq-eqb, ne-eqb}
 use Rattle.mathematics.specs.Price.{whole}
 use Rattle.mathematics.specs.Cover.{Weighted, IsLowest}
-use Rattle.checker.specs.declared.Verdict.{Verdict}
 use Rattle.checker.specs.Bytes.{part}
 use Rattle.checker.specs.GraphForm.{vertexCount}
 use Rattle.checker.specs.GraphOf.{graphOf}
 use Rattle.checker.specs.GraphFaults.{refusal, nothingRefused, graphVerdict}
 use Rattle.checker.specs.AnswerForm.{pathCount, firstPathAt, pathHeaderLength, pathWeight, pathLength, pathVertices, pathEnd, pathOf, pathsFrom, coverOf}
 use Rattle.checker.specs.Check.{checkVerdict, handOutVerdict, pathAt, handedOut}
-use Rattle.checker.proofs.Accepted.{earlier-first, held, PathsRight, Accepted, number-zero-accepted}
+use Rattle.checker.proofs.Accepted.{earlier-first, held, PathsRight, number-zero-accepted}
 use Rattle.checker.proofs.ReadGives.{ReadGives}
 use Rattle.checker.proofs.Soundness.{accepted-is-lowest}
 

@@ -1,12 +1,11 @@
 -- The vertices of a path or a read are vertices of the graph, and since numbers rise a path has no more vertices than the graph.
-use Prim.Native.Nat.{ℕ, zero, suc, _+_, _≤_, _<_}
+use Prim.Native.Nat.{ℕ, suc, _+_, _≤_, _<_}
 use native.Mathlib.Omega.{arith}
 use mathlib.Core.List.{List, [], _∷_}
-use mathlib.Core.Bool.{_&&_}
 use lib.Dec.{T, ltb, lt→ltb}
 use lib.ListN.{length}
 use Rattle.mathematics.specs.Lists.{All, lastOf}
-use Rattle.mathematics.specs.Graph.{Arc, Graph, WellFormed, Rises, linked, isPath}
+use Rattle.mathematics.specs.Graph.{Graph, WellFormed, linked, isPath}
 use Rattle.mathematics.proofs.Basics.{and-in}
 use Rattle.mathematics.proofs.Reach.{linked-first, linked-rest, arc-rises, start-below, path-start, path-linked}
 use Rattle.checker.specs.GraphFaults.{allBelow}

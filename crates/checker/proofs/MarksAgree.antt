@@ -1,7 +1,7 @@
 -- Slacks and bound use the marks of the graph's vertices and no others: marks that agree there have the same slacks and the same bound.
-use Prim.Native.Nat.{ℕ, zero, suc, _+_, _≤_, _<_}
+use Prim.Native.Nat.{ℕ, suc, _+_, _≤_, _<_}
 use native.Mathlib.Omega.{arith}
-use mathlib.Core.Path.{_≡_, refl, sym, ap, ap₂, subst, _∙_}
+use mathlib.Core.Path.{_≡_, refl, ap, ap₂, subst}
 use mathlib.Core.List.{List, [], _∷_}
 use mathlib.Core.Bool.{true, cond, _&&_}
 use lib.Dec.{T}
@@ -11,7 +11,7 @@ use Rattle.mathematics.specs.Lists.{All, lastOf}
 use Rattle.mathematics.specs.Graph.{Vertex, Arc, Graph, WellFormed, Rises, linked}
 use Rattle.mathematics.specs.Cover.{vert, arc, arcCosts}
 use Rattle.mathematics.specs.Prepare.{prepare}
-use Rattle.mathematics.specs.Bound.{Marks, rest, vertexSlacksHold, arcSlackHolds, arcSlack, VertexSlacksHold, SlacksHold, vertexTerms, arcTerms, readTerm, readTerms, bound}
+use Rattle.mathematics.specs.Bound.{Marks, rest, arcSlackHolds, arcSlack, VertexSlacksHold, SlacksHold, vertexTerms, arcTerms, readTerm, readTerms, bound}
 use Rattle.mathematics.proofs.Prepared.{prepared-linked}
 use Rattle.checker.proofs.Inside.{all-last, read-inside}
 

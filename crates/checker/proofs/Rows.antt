@@ -4,7 +4,7 @@ use Prim.Native.Nat.{ℕ, zero, suc, _≤_, _<_}
 use native.Mathlib.Omega.{arith}
 use mathlib.Core.Path.{_≡_, refl, subst, ap, _∙_, sym}
 use mathlib.Core.List.{List, [], _∷_}
-use mathlib.Core.Bool.{Bool, not, _||_}
+use mathlib.Core.Bool.{not, _||_}
 use mathlib.Core.Logic.{inl, inr}
 use lib.Dec.{T, ltb, eqb, ltb→lt, T-not}
 use lib.ListN.{length, getD, take}
@@ -12,7 +12,7 @@ use lib.IntN.{ℤ, pos}
 use Rattle.mathematics.specs.Price.{whole}
 use Rattle.mathematics.specs.Lists.{All}
 use Rattle.mathematics.specs.Graph.{Graph, linked}
-use Rattle.mathematics.specs.Cover.{Item, vert, Ask, asks, Weighted, IsCover, IsLowest, price}
+use Rattle.mathematics.specs.Cover.{vert, Ask, asks, Weighted, IsCover, IsLowest, price}
 use Rattle.mathematics.specs.Prepare.{prepare, overlap, longest, joinAt}
 use Rattle.mathematics.specs.Bound.{bound}
 use Rattle.mathematics.specs.Exists.{ItemOnPath}

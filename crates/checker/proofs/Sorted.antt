@@ -1,14 +1,14 @@
 -- A cover is a set: its paths put into ascending order are the same weighted paths, a cover of the same graph at the same price.
-use Prim.Native.Nat.{ℕ, zero, suc, _+_, _*_, _≤_, _<_}
+use Prim.Native.Nat.{ℕ, _+_, _*_, _≤_}
 use native.Mathlib.Omega.{arith}
 use mathlib.Core.Path.{_≡_, refl, sym, ap, ap₂, subst, _∙_}
 use mathlib.Core.List.{List, [], _∷_}
-use mathlib.Core.Bool.{Bool, true, false, cond, not, _&&_, _||_}
+use mathlib.Core.Bool.{Bool, true, false, cond}
 use mathlib.Core.Logic.{_⊎_, inl, inr, _≢_, _↔_}
-use lib.Dec.{T, ltb, eqb, lt→ltb, eqb→eq, eqb-refl, ltb→lt, nltb→le, not-T}
+use lib.Dec.{T, ltb, ltb→lt, nltb→le, not-T}
 use lib.ListN.{length}
 use Rattle.mathematics.specs.Price.{Prices, Le, Ordered}
-use Rattle.mathematics.specs.Lists.{All, Distinct, holds, someHolds}
+use Rattle.mathematics.specs.Lists.{All, Distinct, someHolds}
 use Rattle.mathematics.specs.Graph.{Graph, WellFormed, isPath}
 use Rattle.mathematics.specs.Cover.{Item, Ask, Weighted, through, asks, total, totalWeight, paths, price, IsCover, IsLowest}
 use Rattle.mathematics.specs.Range.{OneOf}

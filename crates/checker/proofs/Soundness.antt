@@ -1,14 +1,13 @@
 -- Soundness of the checker: an accepted answer's paths are a cover of the graph, at the stated price, and no cover of any size has a lower price.
 use Prim.Native.Nat.{ℕ, zero, suc, _+_, _≤_}
-use mathlib.Core.Path.{_≡_, refl, sym, _∙_}
-use mathlib.Core.List.{List, [], _∷_}
+use mathlib.Core.Path.{_≡_, sym, _∙_}
+use mathlib.Core.List.{List, []}
 use lib.Dec.{T}
-use lib.IntN.{ℤ, pos}
-use lib.Signed.{leZ}
+use lib.IntN.{pos}
 use Rattle.mathematics.specs.Price.{Prices, Ordered, whole}
 use Rattle.mathematics.specs.Lists.{All}
 use Rattle.mathematics.specs.Graph.{isPath}
-use Rattle.mathematics.specs.Cover.{Weighted, IsCover, IsLowest, paths, price}
+use Rattle.mathematics.specs.Cover.{IsCover, IsLowest, paths, price}
 use Rattle.mathematics.specs.Bound.{bound}
 use Rattle.mathematics.proofs.Basics.{and-l, and-r}
 use Rattle.mathematics.proofs.PriceKinds.{whole-ordered}
