@@ -14,13 +14,13 @@ use Rattle.mathematics.specs.Cover.{Item, Ask, Weighted, IsCover, asks, 
 use Rattle.mathematics.proofs.Basics.{all-from, all-among, all-weaken, among-map}
 use Rattle.mathematics.proofs.Merge.{merge, merge-total, merge-weight, merge-weights, merge-all, merge-distinct, merge-holds, some-holds}
 use Rattle.mathematics.proofs.Existence.{held-by-some}
-use Rattle.mathematics.proofs.WithReads.{withReads, Pairwise, path-with-reads, cover-with-reads}
+use Rattle.mathematics.proofs.WithReads.{withReads, Pairwise, Met, path-with-reads, cover-with-reads, cover-paths}
 use Rattle.mathematics.proofs.Parts.{Within, within-holds, holds-within, within-trans, regroup, Parts, parts, Rising, one-place}
 use Rattle.mathematics.proofs.Overlap.{Clear, clear-swap, none-across-left, none-across-right}
 use Rattle.mathematics.proofs.Taken.{Taken, here, there, taken-all, put-all, take-one, taken-cases}
 use Rattle.mathematics.proofs.Longest.{AtMost}
 use Rattle.mathematics.proofs.Joined.{Join, join-all, join-old, left, right, whole}
-use Rattle.mathematics.proofs.Linked.{linked-rising, path-is-linked, path-exchange, through-exchange}
+use Rattle.mathematics.proofs.Linked.{path-rising, path-exchange, through-exchange}
 
 -- ---- where the joined read and the other reads lie afterwards
 
@@ -35,7 +35,8 @@ same-before [] l r m s p h up e f = absurd (omega arith)
 same-before (v ∷ o) l r m s p h up e f = one-place v m (o ++ s) l (o ++ r) (subst Rising f up) (sym f ∙ e) .0
 
 -- one path that holds both reads holds the joined read, since o stands at one place of it
-whole-in-one : (x o y p a b c d : List ℕ) → 1 ≤ length o → Rising p → p ≡ (a ++ x) ++ (o ++ b) → p ≡ c ++ (o ++ (y ++ d)) → Within (x ++ (o ++ y)) p
+whole-in-one : (x o y p a b c d : List ℕ) → 1 ≤ length o → Rising p → p ≡ (a ++ x) ++ (o ++ b) → p ≡ c ++ (o ++ (y ++ d)) →
+    Within (x ++ (o ++ y)) p
 whole-in-one x o y p a b c d h up e f =
     (a, d, f ∙ rw (same-before o (a ++ x) b c (y ++ d) p h up e f) (regroup-whole a x o y d))
 
@@ -46,7 +47,8 @@ within-left : (k l o r : List ℕ) → Within k (l ++ o) → Within k (l ++ (o +
 within-left k l o r w = within-trans k (l ++ o) (l ++ (o ++ r)) w ([], r, sym (append-assoc l o r))
 
 -- a read that lies in the path that held x ++ o lies in one of the two new ones
-from-left : (k x o a r m s : List ℕ) → Within k ((a ++ x) ++ (o ++ r)) → Clear (x ++ o) k → AtMost (length o) (x ++ o) k → Within k ((a ++ x) ++ (o ++ s)) ⊎ Within k (m ++ (o ++ r))
+from-left : (k x o a r m s : List ℕ) → Within k ((a ++ x) ++ (o ++ r)) → Clear (x ++ o) k → AtMost (length o) (x ++ o) k →
+    Within k ((a ++ x) ++ (o ++ s)) ⊎ Within k (m ++ (o ++ r))
 from-left k x o a r m s w clear most = go (parts k (a ++ x) o r (w .0) (w .1) (w .2))
   where
     go : Parts k (a ++ x) o r → Within k ((a ++ x) ++ (o ++ s)) ⊎ Within k (m ++ (o ++ r))
@@ -55,7 +57,8 @@ from-left k x o a r m s w clear most = go (parts k (a ++ x) o r (w .0) (w .1) (w
     go (inr (inr (before, after, u, t, e, f, g, p, q))) = absurd (none-across-left x o k a u before after f p e clear (most .0))
 
 -- and so does one that lies in the path that held o ++ y
-from-right : (k y o b l m s : List ℕ) → Within k (m ++ (o ++ (y ++ b))) → Clear (o ++ y) k → AtMost (length o) (o ++ y) k → Within k (l ++ (o ++ (y ++ b))) ⊎ Within k (m ++ (o ++ s))
+from-right : (k y o b l m s : List ℕ) → Within k (m ++ (o ++ (y ++ b))) → Clear (o ++ y) k → AtMost (length o) (o ++ y) k →
+    Within k (l ++ (o ++ (y ++ b))) ⊎ Within k (m ++ (o ++ s))
 from-right k y o b l m s w clear most = go (parts k m o (y ++ b) (w .0) (w .1) (w .2))
   where
     go : Parts k m o (y ++ b) → Within k (l ++ (o ++ (y ++ b))) ⊎ Within k (m ++ (o ++ s))
@@ -80,7 +83,8 @@ copies k p = record { weight = k; path = p }
 abbrev exchanged : ℕ → ℕ → List ℕ → List ℕ → List ℕ → List ℕ → List Weighted → List Weighted
 exchanged a b A B A′ B′ W = copies a A ∷ copies b B ∷ copies 1 A′ ∷ copies 1 B′ ∷ W
 
-exchanged-sum : (w u s t s′ t′ n : ℕ) → 1 ≤ w → 1 ≤ u → s + t ≡ s′ + t′ → pred w * s + (pred u * t + (1 * s′ + (1 * t′ + n))) ≡ w * s + (u * t + n)
+exchanged-sum : (w u s t s′ t′ n : ℕ) → 1 ≤ w → 1 ≤ u → s + t ≡ s′ + t′ →
+    pred w * s + (pred u * t + (1 * s′ + (1 * t′ + n))) ≡ w * s + (u * t + n)
 exchanged-sum zero u s t s′ t′ n p q e = absurd (omega arith)
 exchanged-sum (suc w) zero s t s′ t′ n p q e = absurd (omega arith)
 exchanged-sum (suc w) (suc u) s t s′ t′ n p q e = omega arith
@@ -125,7 +129,7 @@ module _ {E : Type 0} (G : Graph E) (rs rs′ : List (List ℕ)) (j : Join rs rs
   same-cover w m h = (
     W,
     cover-with-reads G rs rs′ W c
-        (join-all rs rs′ j (λ r. T (someHolds (paths W) r)) (λ l r. some-holds (w .path) (paths W) (whole rs rs′ j) (among-map (λ (u : Weighted). u .path) w W m) h) (c .reads-met)),
+        (join-all rs rs′ j (Met W) (λ l r. some-holds (w .path) (paths W) (whole rs rs′ j) (among-map (λ (u : Weighted). u .path) w W m) h) (c .reads-met)),
     λ i. refl,
     refl,
   )
@@ -145,7 +149,8 @@ module _ {E : Type 0} (G : Graph E) (rs rs′ : List (List ℕ)) (j : Join rs rs
     in-new k (inl w) = (copies 1 newA, inr (inr (inl refl)), omega arith, within-holds newA k w)
     in-new k (inr w) = (copies 1 newB, inr (inr (inr (inl refl))), omega arith, within-holds newB k w)
 
-    other-kept : (k : List ℕ) → Clear (left rs rs′ j) k → Clear (right rs rs′ j) k → AtMost (length (j .o)) (left rs rs′ j) k → AtMost (length (j .o)) (right rs rs′ j) k → T (someHolds (paths W) k) → Kept new k
+    other-kept : (k : List ℕ) → Clear (left rs rs′ j) k → Clear (right rs rs′ j) k → AtMost (length (j .o)) (left rs rs′ j) k →
+        AtMost (length (j .o)) (right rs rs′ j) k → T (someHolds (paths W) k) → Kept new k
     other-kept k cl cr ml mr h = go (held-by-some k W h)
       where
         by-A : T (holds (A .path) k) → Kept new k
@@ -172,18 +177,19 @@ module _ {E : Type 0} (G : Graph E) (rs rs′ : List (List ℕ)) (j : Join rs rs
     kept clear =
         let (ab, ls, rs₁, others) = join-old rs rs′ j Clear clear-swap clear in
         let (ab′, ml, mr, om) = join-old rs rs′ j (AtMost (length (j .o))) (λ a b m. (m .1, m .0)) (j .most) in
-        let held = taken-all (λ r. T (someHolds (paths W) r)) (j .replaced .second) (taken-all (λ r. T (someHolds (paths W) r)) (j .replaced .first) (c .reads-met) .1) .1 in
+        let (hl, more) = taken-all (Met W) (j .replaced .first) (c .reads-met) in
+        let (hr, held) = taken-all (Met W) (j .replaced .second) more in
         put-all (Kept new) (j .replaced .made) (in-new (whole rs rs′ j) (inl (a, q, regroup-whole a (j .x) (j .o) (j .y) q)))
         (all-from (Kept new) (j .replaced .others) (λ k m. other-kept k
         (all-among (Clear (left rs rs′ j)) (j .replaced .others) k ls m)
         (all-among (Clear (right rs rs′ j)) (j .replaced .others) k rs₁ m)
         (all-among (AtMost (length (j .o)) (left rs rs′ j)) (j .replaced .others) k ml m)
         (all-among (AtMost (length (j .o)) (right rs rs′ j)) (j .replaced .others) k mr m)
-        (all-among (λ r. T (someHolds (paths W) r)) (j .replaced .others) k held m)))
+        (all-among (Met W) (j .replaced .others) k held m)))
 
     new-are-paths : All (λ w. 1 ≤ w .weight → T (isPath G (w .path))) new
     new-are-paths =
-        let are = all-weaken (λ w. T (isPath (withReads G rs) (w .path))) (λ w. T (isPath G (w .path))) W (λ (w : Weighted) t. subst T (path-with-reads G rs (w .path)) t) (c .are-paths) in
+        let are = cover-paths G rs W c in
         let (pa, are₁) = taken-all (λ w. T (isPath G (w .path))) first are in
         let (pb, are₂) = taken-all (λ w. T (isPath G (w .path))) second are₁ in
         let ta = subst (λ (q : List ℕ). T (isPath G q)) in-A pa in
@@ -210,7 +216,8 @@ module _ {E : Type 0} (G : Graph E) (rs rs′ : List (List ℕ)) (j : Join rs rs
     new-total i =
         let both : through i (A .path) + through i (B .path) ≡ through i newA + through i newB =
         rw (in-A, in-B) (through-exchange i (a ++ j .x) (j .o) b p (j .y ++ q) (j .some-o)) in
-        exchanged-sum (A .weight) (B .weight) (through i (A .path)) (through i (B .path)) (through i newA) (through i newB) (total i W₂) (some-copies .0) (some-copies .1) both ∙
+        exchanged-sum (A .weight) (B .weight) (through i (A .path)) (through i (B .path)) (through i newA) (through i newB)
+        (total i W₂) (some-copies .0) (some-copies .1) both ∙
         omega (arith, taken-total i first, taken-total i second)
 
     new-weight : totalWeight new ≡ totalWeight W
@@ -221,15 +228,16 @@ module _ {E : Type 0} (G : Graph E) (rs rs′ : List (List ℕ)) (j : Join rs rs
     exchange-cover : Pairwise Clear rs → CoverLike (withReads G rs′) W
     exchange-cover clear = merged-cover G rs′ W new (c .demands-met) new-are-paths (kept clear) new-total new-weight
 
-  one-path : WellFormed G → (w : Weighted) → OneOf W w → Within (left rs rs′ j) (w .path) → Within (right rs rs′ j) (w .path) → CoverLike (withReads G rs′) W
+  one-path : WellFormed G → (w : Weighted) → OneOf W w → Within (left rs rs′ j) (w .path) → Within (right rs rs′ j) (w .path) →
+      CoverLike (withReads G rs′) W
   one-path wf w m (a, b, e) (p, q, f) =
-      let is = subst T (path-with-reads G rs (w .path)) (all-among (λ (u : Weighted). T (isPath (withReads G rs) (u .path))) W w (c .are-paths) m) in
-      let up = linked-rising (length (G .vertices)) (G .arcs) (wf .rises) (w .path) (path-is-linked G (w .path) is) in
+      let up = path-rising G wf (w .path) (all-among (λ (u : Weighted). T (isPath G (u .path))) W w (cover-paths G rs W c) m) in
       same-cover w m
       (within-holds (w .path) (whole rs rs′ j)
       (whole-in-one (j .x) (j .o) (j .y) (w .path) a b p q (j .some-o) up (e ∙ regroup a (j .x) (j .o) b) (f ∙ regroup-right p (j .o) (j .y) q)))
 
-  two-paths : Pairwise Clear rs → (A B : Weighted) (W₁ : List Weighted) → Taken A W W₁ → OneOf W₁ B → Within (left rs rs′ j) (A .path) → Within (right rs rs′ j) (B .path) → CoverLike (withReads G rs′) W
+  two-paths : Pairwise Clear rs → (A B : Weighted) (W₁ : List Weighted) → Taken A W W₁ → OneOf W₁ B → Within (left rs rs′ j) (A .path) →
+      Within (right rs rs′ j) (B .path) → CoverLike (withReads G rs′) W
   two-paths clear A B W₁ first m (a, b, e) (p, q, f) =
       let (W₂, second) = take-one B W₁ m in
       exchange-cover A B W₁ W₂ first second a b p q (e ∙ regroup a (j .x) (j .o) b) (f ∙ regroup-right p (j .o) (j .y) q) clear
@@ -237,8 +245,8 @@ module _ {E : Type 0} (G : Graph E) (rs rs′ : List (List ℕ)) (j : Join rs rs
   -- a cover of the reads gives one of the reads after a join, with the same totals
   pub join-cover : WellFormed G → Pairwise Clear rs → CoverLike (withReads G rs′) W
   join-cover wf clear =
-      let (hl, more) = taken-all (λ r. T (someHolds (paths W) r)) (j .replaced .first) (c .reads-met) in
-      let (hr, others) = taken-all (λ r. T (someHolds (paths W) r)) (j .replaced .second) more in
+      let (hl, more) = taken-all (Met W) (j .replaced .first) (c .reads-met) in
+      let (hr, others) = taken-all (Met W) (j .replaced .second) more in
       let (A, mA, tA) = held-by-some (left rs rs′ j) W hl in
       let (B, mB, tB) = held-by-some (right rs rs′ j) W hr in
       let (W₁, first) = take-one A W mA in

@@ -1,5 +1,7 @@
 -- The laws, smallest first; the theorems that docs/PROMISES.md names come last.
 pub mod Basics
+pub mod Loads
+pub mod Sweep
 pub mod Algebra
 pub mod PriceKinds
 pub mod Network
@@ -26,6 +28,15 @@ pub mod Items
 pub mod Telescope
 pub mod Totals
 pub mod LowerBound
+pub mod Links
+pub mod Decompose
+pub mod Base
+pub mod Wired
+pub mod Marked
+pub mod MarksWithin
+pub mod Filled
+pub mod Lying
+pub mod Duality
 pub mod Lowest
 pub mod Limits
 pub mod Examples

@@ -103,7 +103,8 @@ clear-most r s (x ∷ m) o (y ∷ n) e f h =
     subst₂ (λ (a b : List ℕ). length o ≤ overlap a b) (sym e) (sym f) (overlap-most (x ∷ m) o (y ∷ n) (omega arith) (omega arith))
 
 -- A list that reaches beyond o on both sides, where x stands before o: either x ++ o stands in it, or they overlap by more than o.
-pub none-across-left : (x o k a u before after : List ℕ) → a ++ x ≡ u ++ before → 1 ≤ length before → k ≡ before ++ (o ++ after) → Clear (x ++ o) k → overlap (x ++ o) k ≤ length o → ⊥
+pub none-across-left : (x o k a u before after : List ℕ) → a ++ x ≡ u ++ before → 1 ≤ length before → k ≡ before ++ (o ++ after) →
+    Clear (x ++ o) k → overlap (x ++ o) k ≤ length o → ⊥
 none-across-left x o k a u before after e p f c h = go (levi a x u before e)
   where
     go : Cuts a x u before → ⊥
@@ -112,7 +113,8 @@ none-across-left x o k a u before after e p f c h = go (levi a x u before e)
     go (inr (m, g, d)) = c .0 (m, after, f ∙ rw d (simp append-assoc))
 
 -- the same where y stands after o
-pub none-across-right : (y o k b w before after : List ℕ) → y ++ b ≡ after ++ w → 1 ≤ length after → k ≡ before ++ (o ++ after) → Clear (o ++ y) k → overlap k (o ++ y) ≤ length o → ⊥
+pub none-across-right : (y o k b w before after : List ℕ) → y ++ b ≡ after ++ w → 1 ≤ length after → k ≡ before ++ (o ++ after) →
+    Clear (o ++ y) k → overlap k (o ++ y) ≤ length o → ⊥
 none-across-right y o k b w before after e p f c h = go (levi y b after w e)
   where
     go : Cuts y b after w → ⊥

@@ -88,7 +88,8 @@ levi (x ∷ a) b (y ∷ c) d e = cuts-after x y a b c d (head-eq-of-cons-eq e) (
 -- a list that stands in l ++ (o ++ r) stands in l ++ o, or in o ++ r, or reaches beyond o on both sides
 abbrev pub Across : List ℕ → List ℕ → List ℕ → List ℕ → Type 0
 Across k l o r =
-    (before : List ℕ) × (after : List ℕ) × (u : List ℕ) × (w : List ℕ) × (k ≡ before ++ (o ++ after)) × (l ≡ u ++ before) × (r ≡ after ++ w) × (1 ≤ length before) × (1 ≤ length after)
+    (before : List ℕ) × (after : List ℕ) × (u : List ℕ) × (w : List ℕ) ×
+    (k ≡ before ++ (o ++ after)) × (l ≡ u ++ before) × (r ≡ after ++ w) × (1 ≤ length before) × (1 ≤ length after)
 
 abbrev pub Parts : List ℕ → List ℕ → List ℕ → List ℕ → Type 0
 Parts k l o r = Within k (l ++ o) ⊎ (Within k (o ++ r) ⊎ Across k l o r)

@@ -6,14 +6,14 @@ use mathlib.Core.Path.{_≡_, refl, _∙_}
 use mathlib.Core.List.{List, [], _∷_, _++_, append-assoc}
 use lib.Dec.{T}
 use lib.ListN.{length, getD, length-append, List·getD-append}
-use Rattle.mathematics.specs.Lists.{All, someHolds, lastOf}
+use Rattle.mathematics.specs.Lists.{All, lastOf}
 use Rattle.mathematics.specs.Range.{OneOf}
 use Rattle.mathematics.specs.Graph.{Arc, Graph, WellFormed, linked}
 use Rattle.mathematics.specs.Cover.{Item, Weighted, IsCover, total, totalWeight, paths}
 use Rattle.mathematics.specs.Prepare.{dropParts, prepare}
 use Rattle.mathematics.proofs.Basics.{all-from, all-among, all-weaken}
 use Rattle.mathematics.proofs.Reach.{last-append}
-use Rattle.mathematics.proofs.WithReads.{withReads, Pairwise, Apart, Independent, cover-with-reads}
+use Rattle.mathematics.proofs.WithReads.{withReads, Pairwise, Apart, Independent, Met, cover-with-reads}
 use Rattle.mathematics.proofs.Parts.{Held, holds-within, some-held, held-some, held-trans}
 use Rattle.mathematics.proofs.Overlap.{Clear}
 use Rattle.mathematics.proofs.Taken.{pairwise-both}
@@ -24,7 +24,8 @@ use Rattle.mathematics.proofs.Linked.{linked-to, linked-join}
 use Rattle.mathematics.proofs.Exchange.{CoverLike, join-cover}
 
 -- what holds after dropping and stays with each join holds of the prepared reads
-prepared-keeps : (Q : List (List ℕ) → Type 0) → ((rs rs′ : List (List ℕ)) → Join rs rs′ → Q rs → Q rs′) → (rs : List (List ℕ)) → Q (dropParts [] rs) → Q (prepare rs)
+prepared-keeps : (Q : List (List ℕ) → Type 0) → ((rs rs′ : List (List ℕ)) → Join rs rs′ → Q rs → Q rs′) → (rs : List (List ℕ)) →
+    Q (dropParts [] rs) → Q (prepare rs)
 unfolding prepare
 prepared-keeps Q step rs h = while-keeps Q step (length rs) (dropParts [] rs) h
 
@@ -49,11 +50,13 @@ prepared-fewer rs =
 abbrev LinkedRead : {E : Type 0} → List (Arc E) → List ℕ → Type 0
 LinkedRead arcs r = (2 ≤ length r) × T (linked arcs r)
 
-linked-whole : {E : Type 0} (arcs : List (Arc E)) (x o y : List ℕ) → 1 ≤ length o → T (linked arcs (x ++ o)) → T (linked arcs (o ++ y)) → T (linked arcs (x ++ (o ++ y)))
+linked-whole : {E : Type 0} (arcs : List (Arc E)) (x o y : List ℕ) → 1 ≤ length o → T (linked arcs (x ++ o)) → T (linked arcs (o ++ y)) →
+    T (linked arcs (x ++ (o ++ y)))
 linked-whole arcs x [] y p h k = absurd (omega arith)
 linked-whole arcs x (v ∷ o) y p h k = linked-join arcs x v (o ++ y) (linked-to arcs x v o h) k
 
-linked-read-whole : {E : Type 0} (arcs : List (Arc E)) (x o y : List ℕ) → 1 ≤ length o → LinkedRead arcs (x ++ o) → LinkedRead arcs (o ++ y) → LinkedRead arcs (x ++ (o ++ y))
+linked-read-whole : {E : Type 0} (arcs : List (Arc E)) (x o y : List ℕ) → 1 ≤ length o → LinkedRead arcs (x ++ o) → LinkedRead arcs (o ++ y) →
+    LinkedRead arcs (x ++ (o ++ y))
 linked-read-whole arcs x o y p h k =
     (omega (arith, h .0, length-append x o, length-append o y, length-append x (o ++ y)), linked-whole arcs x o y p (h .1) (k .1))
 
@@ -103,9 +106,9 @@ module _ {E : Type 0} (G : Graph E) where
   pub prepared-cover-is-cover : (W : List Weighted) → IsCover (withReads G (prepare (G .reads))) W → IsCover G W
   prepared-cover-is-cover W c =
       let rs = prepare (G .reads) in
-      let held = all-weaken (λ r. T (someHolds (paths W) r)) (Held (paths W)) rs (λ r. some-held (paths W) r) (c .reads-met) in
+      let held = all-weaken (Met W) (Held (paths W)) rs (λ r. some-held (paths W) r) (c .reads-met) in
       cover-with-reads G rs (G .reads) W c
-      (all-weaken (Held rs) (λ r. T (someHolds (paths W) r)) (G .reads)
+      (all-weaken (Held rs) (Met W) (G .reads)
       (λ r h. let k = held-by-held (paths W) rs r held h in held-some (paths W) r (k .0) (k .1) (k .2))
       (prepared-held (G .reads)))
 
@@ -115,10 +118,11 @@ module _ {E : Type 0} (G : Graph E) where
   cover-can-hold-prepared wf W c =
       prepared-keeps (λ rs. Pairwise Clear rs × CoverLike (withReads G rs) W) step (G .reads) (
         dropped-clear (G .reads),
-        (W, cover-with-reads G (G .reads) (dropParts [] (G .reads)) W c (dropped-all (λ r. T (someHolds (paths W) r)) [] (G .reads) (c .reads-met)), λ i. refl, refl),
+        (W, cover-with-reads G (G .reads) (dropParts [] (G .reads)) W c (dropped-all (Met W) [] (G .reads) (c .reads-met)), λ i. refl, refl),
       ) .1
     where
-      step : (rs rs′ : List (List ℕ)) → Join rs rs′ → Pairwise Clear rs × CoverLike (withReads G rs) W → Pairwise Clear rs′ × CoverLike (withReads G rs′) W
+      step : (rs rs′ : List (List ℕ)) → Join rs rs′ → Pairwise Clear rs × CoverLike (withReads G rs) W →
+          Pairwise Clear rs′ × CoverLike (withReads G rs′) W
       step rs rs′ j (clear, (U, cover, totals, weighs)) =
           let (U′, cover′, totals′, weighs′) = join-cover G rs rs′ j U cover wf clear in
           (join-clear rs rs′ j clear, (U′, cover′, λ i. totals′ i ∙ totals i, weighs′ ∙ weighs))

@@ -16,11 +16,11 @@ use Rattle.mathematics.specs.Bound.{readsThrough}
 use Rattle.mathematics.specs.Reach.{itemList}
 use Rattle.mathematics.proofs.Basics.{or-cases, all-weaken}
 use Rattle.mathematics.proofs.Reach.{through-iff-holds}
-use Rattle.mathematics.proofs.WithReads.{withReads, Pairwise, Apart, Independent, path-with-reads}
+use Rattle.mathematics.proofs.WithReads.{withReads, Pairwise, Apart, Independent, Met, cover-paths}
 use Rattle.mathematics.proofs.Parts.{Within, holds-within, within-holds, regroup, levi, Rising, one-place}
 use Rattle.mathematics.proofs.Overlap.{Clear, clear-swap, clear-most}
 use Rattle.mathematics.proofs.Taken.{all-both}
-use Rattle.mathematics.proofs.Linked.{linked-rising, path-is-linked, through-within}
+use Rattle.mathematics.proofs.Linked.{path-rising, through-within}
 
 -- one of the two ends with the other
 abbrev EndAlike : List ℕ → List ℕ → Type 0
@@ -31,7 +31,8 @@ abbrev BeginAlike : List ℕ → List ℕ → Type 0
 BeginAlike l m = ((n : List ℕ) × (m ≡ l ++ n)) ⊎ ((n : List ℕ) × (l ≡ m ++ n))
 
 -- two reads whose parts before a vertex end alike and whose parts from it on begin alike are not independent
-alike : (r s l t m u : List ℕ) → 1 ≤ length t → 1 ≤ length u → r ≡ l ++ t → s ≡ m ++ u → EndAlike l m → BeginAlike t u → Clear r s → overlap r s ≡ 0 → overlap s r ≡ 0 → ⊥
+alike : (r s l t m u : List ℕ) → 1 ≤ length t → 1 ≤ length u → r ≡ l ++ t → s ≡ m ++ u → EndAlike l m → BeginAlike t u → Clear r s →
+    overlap r s ≡ 0 → overlap s r ≡ 0 → ⊥
 alike r s l t m u p q e f (inl (n, g)) (inl (k, h)) c a b =
     omega (arith, clear-most r s n (m ++ t) k (e ∙ rw g (append-assoc n m t)) (f ∙ rw h (sym (append-assoc m t k))) c, length-append m t)
 alike r s l t m u p q e f (inl (n, g)) (inr (k, h)) c a b = c .1 (n, k, e ∙ rw (g, h, f) (simp append-assoc))
@@ -86,7 +87,8 @@ none-through i [] h = refl
 none-through i (r ∷ rs) h = omega (arith, h .0, none-through i rs (h .1))
 
 -- the independent reads in one path pass an item no more often than the path does
-room-in-path : (i : Item) (p : List ℕ) (rs : List (List ℕ)) → Rising p → All (λ r. Within r p) rs → Independent rs → readsThrough i rs ≤ through i p
+room-in-path : (i : Item) (p : List ℕ) (rs : List (List ℕ)) → Rising p → All (λ r. Within r p) rs → Independent rs →
+    readsThrough i rs ≤ through i p
 room-in-path i p [] up h a = omega arith
 room-in-path i p (r ∷ rs) up h a =
     elim (eq-zero-or-pos (through i r)) [
@@ -104,52 +106,58 @@ abbrev only : (List ℕ → Bool) → List (List ℕ) → List (List ℕ)
 only t [] = []
 only t (r ∷ rs) = cond (t r) (r ∷ only t rs) (only t rs)
 
-only-all : (P : List ℕ → Type 0) (t : List ℕ → Bool) (rs : List (List ℕ)) → All P rs → All (λ r. P r × T (t r)) (only t rs)
-only-all P t [] h = tt
-only-all P t (r ∷ rs) h = pick (t r) (λ k. k) (only-all P t rs (h .1))
+only-all : (P Q : List ℕ → Type 0) (t : List ℕ → Bool) → ((r : List ℕ) → P r → T (t r) → Q r) → (rs : List (List ℕ)) → All P rs →
+    All Q (only t rs)
+only-all P Q t f [] h = tt
+only-all P Q t f (r ∷ rs) h = pick (t r) (f r (h .0)) (only-all P Q t f rs (h .1))
   where
-    pick : (b : Bool) → (T b → T (t r)) → All (λ r. P r × T (t r)) (only t rs) → All (λ r. P r × T (t r)) (cond b (r ∷ only t rs) (only t rs))
-    pick true f ih = ((h .0, f tt), ih)
-    pick false f ih = ih
+    pick : (b : Bool) → (T b → Q r) → All Q (only t rs) → All Q (cond b (r ∷ only t rs) (only t rs))
+    pick true g ih = (g tt, ih)
+    pick false g ih = ih
 
 only-pairwise : (R : List ℕ → List ℕ → Type 0) (t : List ℕ → Bool) (rs : List (List ℕ)) → Pairwise R rs → Pairwise R (only t rs)
 only-pairwise R t [] h = tt
-only-pairwise R t (r ∷ rs) h = pick (t r) (all-weaken (λ s. R r s × T (t s)) (R r) (only t rs) (λ s k. k .0) (only-all (R r) t rs (h .0))) (only-pairwise R t rs (h .1))
+only-pairwise R t (r ∷ rs) h = pick (t r) (only-all (R r) (R r) t (λ s k u. k) rs (h .0)) (only-pairwise R t rs (h .1))
   where
     pick : (b : Bool) → All (R r) (only t rs) → Pairwise R (only t rs) → Pairwise R (cond b (r ∷ only t rs) (only t rs))
     pick true f ih = (f, ih)
     pick false f ih = ih
 
-only-through : (i : Item) (t : List ℕ → Bool) (rs : List (List ℕ)) → readsThrough i rs ≡ readsThrough i (only t rs) + readsThrough i (only (λ r. not (t r)) rs)
+only-through : (i : Item) (t : List ℕ → Bool) (rs : List (List ℕ)) →
+    readsThrough i rs ≡ readsThrough i (only t rs) + readsThrough i (only (λ r. not (t r)) rs)
 only-through i t [] = refl
-only-through i t (r ∷ rs) = pick (t r) (only-through i t rs)
+only-through i t (r ∷ rs) = pick (t r) (only t rs) (only (λ r. not (t r)) rs) (only-through i t rs)
   where
-    pick : (b : Bool) → readsThrough i rs ≡ readsThrough i (only t rs) + readsThrough i (only (λ r. not (t r)) rs) →
-        through i r + readsThrough i rs ≡ readsThrough i (cond b (r ∷ only t rs) (only t rs)) + readsThrough i (cond (not b) (r ∷ only (λ r. not (t r)) rs) (only (λ r. not (t r)) rs))
-    pick true ih = omega arith
-    pick false ih = omega arith
+    pick : (b : Bool) (yea nay : List (List ℕ)) → readsThrough i rs ≡ readsThrough i yea + readsThrough i nay →
+        through i r + readsThrough i rs ≡ readsThrough i (cond b (r ∷ yea) yea) + readsThrough i (cond (not b) (r ∷ nay) nay)
+    pick true yea nay ih = omega arith
+    pick false yea nay ih = omega arith
 
-held-elsewhere : (p : List ℕ) (ps : List (List ℕ)) (r : List ℕ) → T (someHolds (p ∷ ps) r) × T (not (holds p r)) → T (someHolds ps r)
-held-elsewhere p ps r (h, n) = elim (or-cases (holds p r) (someHolds ps r) h) [ inl k ↦ absurd (T-not (holds p r) n k) | inr k ↦ k ]
+held-elsewhere : (w : Weighted) (W : List Weighted) (r : List ℕ) → Met (w ∷ W) r → T (not (holds (w .path) r)) → Met W r
+held-elsewhere w W r h n =
+    elim (or-cases (holds (w .path) r) (someHolds (paths W) r) h) [ inl k ↦ absurd (T-not (holds (w .path) r) n k) | inr k ↦ k ]
 
-room : (i : Item) (W : List Weighted) (rs : List (List ℕ)) → All (λ w. Rising (w .path)) W → All (λ w. 1 ≤ w .weight) W → Independent rs → All (λ r. T (someHolds (paths W) r)) rs → readsThrough i rs ≤ total i W
+-- the reads in the first path have room in it, the others in the other paths
+room : (i : Item) (W : List Weighted) (rs : List (List ℕ)) → All (λ w. Rising (w .path)) W → All (λ w. 1 ≤ w .weight) W → Independent rs →
+    All (Met W) rs → readsThrough i rs ≤ total i W
 room i [] [] up l a h = omega arith
 room i [] (r ∷ rs) up l a h = absurd (h .0)
 room i (w ∷ W) rs up l a h =
     let p : List ℕ = w .path in
-    let here = room-in-path i p (only (holds p) rs) (up .0)
-    (all-weaken (λ r. T (someHolds (paths (w ∷ W)) r) × T (holds p r)) (λ r. Within r p) (only (holds p) rs) (λ r k. holds-within p r (k .1)) (only-all (λ r. T (someHolds (paths (w ∷ W)) r)) (holds p) rs h))
+    let here =
+    room-in-path i p (only (holds p) rs) (up .0)
+    (only-all (Met (w ∷ W)) (λ r. Within r p) (holds p) (λ r k t. holds-within p r t) rs h)
     (only-pairwise (λ r s. Apart r s × Apart s r) (holds p) rs a) in
-    let more = room i W (only (λ r. not (holds p r)) rs) (up .1) (l .1)
+    let more =
+    room i W (only (λ r. not (holds p r)) rs) (up .1) (l .1)
     (only-pairwise (λ r s. Apart r s × Apart s r) (λ r. not (holds p r)) rs a)
-    (all-weaken (λ r. T (someHolds (paths (w ∷ W)) r) × T (not (holds p r))) (λ r. T (someHolds (paths W) r)) (only (λ r. not (holds p r)) rs) (λ r. held-elsewhere p (paths W) r) (only-all (λ r. T (someHolds (paths (w ∷ W)) r)) (λ r. not (holds p r)) rs h)) in
+    (only-all (Met (w ∷ W)) (Met W) (λ r. not (holds p r)) (held-elsewhere w W) rs h) in
     omega (arith, here, more, only-through i (holds p) rs, mul-le-mul-right (through i p) (l .0))
 
 -- In a cover that satisfies independent reads, no more reads pass an item than copies do.
-pub room-for-reads : {E : Type 0} (G : Graph E) → WellFormed G → (rs : List (List ℕ)) (W : List Weighted) → Independent rs → IsCover (withReads G rs) W → (i : Item) → readsThrough i rs ≤ total i W
+pub room-for-reads : {E : Type 0} (G : Graph E) → WellFormed G → (rs : List (List ℕ)) (W : List Weighted) → Independent rs →
+    IsCover (withReads G rs) W → (i : Item) → readsThrough i rs ≤ total i W
 room-for-reads G wf rs W a c i =
     room i W rs
-    (all-weaken (λ w. T (isPath (withReads G rs) (w .path))) (λ w. Rising (w .path)) W
-    (λ (w : Weighted) t. linked-rising (length (G .vertices)) (G .arcs) (wf .rises) (w .path) (path-is-linked G (w .path) (subst T (path-with-reads G rs (w .path)) t)))
-    (c .are-paths))
+    (all-weaken (λ w. T (isPath G (w .path))) (λ w. Rising (w .path)) W (λ (w : Weighted). path-rising G wf (w .path)) (cover-paths G rs W c))
     (c .weights) a (c .reads-met)

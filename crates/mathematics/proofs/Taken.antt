@@ -35,7 +35,8 @@ module _ {A : Type 0} where
   -- one of the whole is the one taken or one of what is left
   pub taken-cases : {x : A} {xs ys : List A} → Taken x xs ys → (z : A) → OneOf xs z → (z ≡ x) ⊎ OneOf ys z
   taken-cases {x} {xs} {ys} t z m =
-      all-among (λ (y : A). (y ≡ x) ⊎ OneOf ys y) xs z (put-all (λ (y : A). (y ≡ x) ⊎ OneOf ys y) t (inl refl) (all-from (λ (y : A). (y ≡ x) ⊎ OneOf ys y) ys (λ y n. inr n))) m
+      let P : A → Type 0 = λ y. (y ≡ x) ⊎ OneOf ys y in
+      all-among P xs z (put-all P t (inl refl) (all-from P ys (λ y n. inr n))) m
 
   -- two are taken in either order
   pub taken-swap : {x y : A} {xs ys zs : List A} → Taken x xs ys → Taken y ys zs → (us : List A) × Taken y xs us × Taken x us zs
@@ -59,6 +60,7 @@ module _ {A : Type 0} where
   all-both P Q S [] f h k = tt
   all-both P Q S (x ∷ xs) f h k = (f x (h .0) (k .0), all-both P Q S xs f (h .1) (k .1))
 
-  pub pairwise-both : (P Q S : A → A → Type 0) (xs : List A) → ((x y : A) → P x y → Q x y → S x y) → Pairwise P xs → Pairwise Q xs → Pairwise S xs
+  pub pairwise-both : (P Q S : A → A → Type 0) (xs : List A) → ((x y : A) → P x y → Q x y → S x y) → Pairwise P xs → Pairwise Q xs →
+      Pairwise S xs
   pairwise-both P Q S [] f h k = tt
   pairwise-both P Q S (x ∷ xs) f h k = (all-both (P x) (Q x) (S x) xs (f x) (h .0) (k .0), pairwise-both P Q S xs f (h .1) (k .1))

@@ -26,6 +26,10 @@ Apart r s = (T (holds s r) → ⊥) × (overlap r s ≡ 0)
 abbrev pub Independent : List (List ℕ) → Type 0
 Independent rs = Pairwise (λ r s. Apart r s × Apart s r) rs
 
+-- some path of W satisfies the read
+abbrev pub Met : List Weighted → List ℕ → Type 0
+Met W r = T (someHolds (paths W) r)
+
 module _ {E : Type 0} (G : Graph E) where
   -- the reads have no say in what a path is
   pub path-with-reads : (rs : List (List ℕ)) (p : List ℕ) → isPath (withReads G rs) p ≡ isPath G p
@@ -33,7 +37,8 @@ module _ {E : Type 0} (G : Graph E) where
   path-with-reads rs (v ∷ p) = refl
 
   -- a cover that satisfies other reads is a cover of the graph with those
-  pub cover-with-reads : (rs rs′ : List (List ℕ)) (W : List Weighted) → IsCover (withReads G rs) W → All (λ r. T (someHolds (paths W) r)) rs′ → IsCover (withReads G rs′) W
+  pub cover-with-reads : (rs rs′ : List (List ℕ)) (W : List Weighted) → IsCover (withReads G rs) W → All (Met W) rs′ →
+      IsCover (withReads G rs′) W
   cover-with-reads rs rs′ W c h =
       record {
         are-paths = all-weaken (λ w. T (isPath (withReads G rs) (w .path))) (λ w. T (isPath (withReads G rs′) (w .path))) W
@@ -43,3 +48,8 @@ module _ {E : Type 0} (G : Graph E) where
         demands-met = c .demands-met;
         reads-met = h;
       }
+
+  pub cover-paths : (rs : List (List ℕ)) (W : List Weighted) → IsCover (withReads G rs) W → All (λ w. T (isPath G (w .path))) W
+  cover-paths rs W c =
+      all-weaken (λ w. T (isPath (withReads G rs) (w .path))) (λ w. T (isPath G (w .path))) W
+      (λ (w : Weighted) t. subst T (path-with-reads rs (w .path)) t) (c .are-paths)
