@@ -10,21 +10,22 @@ use lib.Dec.{T}
 use lib.ListN.{length, length-append}
 use lib.IntN.{ℤ, pos}
 use lib.Signed.{leZ}
-use Rattle.mathematics.specs.Price.{Prices, whole}
+use Rattle.mathematics.specs.Price.{whole}
 use Rattle.mathematics.specs.Lists.{All}
-use Rattle.mathematics.specs.Graph.{Graph, WellFormed, isPath}
+use Rattle.mathematics.specs.Graph.{isPath}
 use Rattle.mathematics.specs.Cover.{Weighted, totalWeight, paths, price, IsCover, IsLowest}
-use Rattle.mathematics.specs.Bound.{Marks, SlacksHold, bound}
+use Rattle.mathematics.specs.Bound.{Marks, bound}
 use Rattle.mathematics.specs.Exists.{Coverable}
-use Rattle.mathematics.specs.Range.{pathLimit, weightLimit, MarkWithin, CostsHold}
 use Rattle.mathematics.proofs.Basics.{and-in, all-weaken}
 use Rattle.mathematics.proofs.PriceKinds.{whole-ordered}
+use Rattle.mathematics.proofs.Duality.{Best, strong-duality}
 use Rattle.mathematics.proofs.Lowest.{Shows, same-marks-serve, shown-is-lowest}
 use Rattle.mathematics.proofs.Limits.{whole-marks-fit, path-limit-464, weight-limit-320000016}
 use Rattle.mathematics.proofs.Existence.{cover-shows-coverable}
 use Rattle.checker.specs.Limits.{maxVertices, maxPaths, maxWeight, maxPathLength, maxOpening, maxCost}
 use Rattle.checker.specs.GraphForm.{vertexCount}
 use Rattle.checker.specs.GraphOf.{graphOf}
+use Rattle.checker.specs.GraphReads.{Reads}
 use Rattle.checker.specs.GraphFaults.{nothingRefused, allBelow, graphVerdict}
 use Rattle.checker.specs.AnswerForm.{pathCount, markLength, inMarkAt, outMarkAt, marksOf, firstPathAt, pathWeight, pathVertices, pathEnd, coverOf}
 use Rattle.checker.specs.AnswerFaults.{listBefore}
@@ -32,7 +33,9 @@ use Rattle.checker.specs.Check.{samePrice, checkVerdict}
 use Rattle.checker.specs.Encode.{pathBytes, encodeAnswer, sorted}
 use Rattle.checker.proofs.Accepted.{MarkRight, MarksRight, PathsRight, Certified, Accepted, accepted-nothing-refused}
 use Rattle.checker.proofs.Ascending.{Ascending}
-use Rattle.checker.proofs.ReadGives.{ReadGives, vertices-length}
+use Rattle.checker.proofs.GraphReads.{number-zero-iff-reads}
+use Rattle.checker.proofs.GraphFacts.{graph-well-formed, graph-costs-hold, graph-within}
+use Rattle.checker.proofs.GraphRange.{vertices-length, demands-low, costs-low}
 use Rattle.checker.proofs.Encoding
 use Rattle.checker.proofs.Encoding.{InRange, Bytes, Holdable, pathRecord, record-weight, record-length, record-path, record-end, record-split}
 use Rattle.checker.proofs.Inside.{all-below, path-inside}
@@ -59,7 +62,7 @@ equal-same : (a b : ℤ) → a ≡ b → T (samePrice whole a b)
 equal-same a b e =
     and-in (leZ a b) (leZ b a) (subst (λ x. T (leZ a x)) e (whole-ordered .le-refl a)) (subst (λ x. T (leZ x a)) e (whole-ordered .le-refl a))
 
-module _ (s : List ℕ) (g : ReadGives s) where
+module _ (s : List ℕ) (r : Reads s) where
   -- the path records of a cover, which stand behind p, are right
   paths-right : (W : List Weighted) (p : List ℕ) (at : ℕ) (before : List ℕ) (copies : ℕ) → length p ≡ at → Ascending before (paths W) →
       All (λ w. T (isPath (graphOf s) (w .path))) W → All (λ w. 1 ≤ w .weight) W → copies + totalWeight W ≤ maxWeight →
@@ -68,7 +71,7 @@ module _ (s : List ℕ) (g : ReadGives s) where
   paths-right (w ∷ W) p at before copies e a h k l = (
     record {
       some-vertex = omega (arith, count, inside .1);
-      few-vertices = omega (arith, count, inside .2, g .few-vertices);
+      few-vertices = omega (arith, count, inside .2, graph-within s r .few-vertices);
       within = omega (arith, ap length (record-split w W p at e), length-append (p ++ pathRecord w) (pathBytes W), record-end w W p at e);
       some-copy = omega (arith, weight, k .0);
       few-copies = omega (arith, weight);
@@ -97,7 +100,7 @@ module _ (s : List ℕ) (g : ReadGives s) where
       path = record-path w W p at e
 
       inside : All (λ v. v < length (graphOf s .vertices)) (w .path) × (1 ≤ length (w .path)) × (length (w .path) ≤ length (graphOf s .vertices))
-      inside = path-inside (graphOf s) (g .well-formed) (w .path) (h .0)
+      inside = path-inside (graphOf s) (graph-well-formed s r) (w .path) (h .0)
 
   module _ (reads : graphVerdict s .number ≡ 0) (W : List Weighted) (c : IsCover (graphOf s) W) (few : length W ≤ maxPaths)
       (light : totalWeight W ≤ maxWeight) (ascending : Ascending [] (paths W)) (m : Marks ℤ) (fit : MarksFit s m) where
@@ -151,8 +154,8 @@ module _ (s : List ℕ) (g : ReadGives s) where
                   demands-met = c .demands-met;
                   reads-met = c .reads-met;
                   price-stated = equal-same (price whole (graphOf s) W) (pos p) e;
-                  slacks-hold = slacks-agree whole (graphOf s) (g .well-formed) m (marksOf form) agree (shown .0);
-                  bound-stated = equal-same (bound whole (graphOf s) (marksOf form)) (pos p) (sym (bound-agrees whole (graphOf s) (g .well-formed) m (marksOf form) agree) ∙ (shown .1 ∙ e));
+                  slacks-hold = slacks-agree whole (graphOf s) (graph-well-formed s r) m (marksOf form) agree (shown .0);
+                  bound-stated = equal-same (bound whole (graphOf s) (marksOf form)) (pos p) (sym (bound-agrees whole (graphOf s) (graph-well-formed s r) m (marksOf form) agree) ∙ (shown .1 ∙ e));
                 });
           }
 
@@ -172,16 +175,16 @@ weights-low : (k : ℕ) (W : List Weighted) → totalWeight W ≤ k → All (λ 
 weights-low k [] h = tt
 weights-low k (w ∷ W) h = (omega arith, weights-low k W (omega arith))
 
-module _ (s : List ℕ) (g : ReadGives s) (W : List Weighted) (c : IsCover (graphOf s) W) where
+module _ (s : List ℕ) (r : Reads s) (W : List Weighted) (c : IsCover (graphOf s) W) where
   paths-short : All (λ w. length (w .path) ≤ maxPathLength) W
   paths-short =
       all-weaken (λ w. T (isPath (graphOf s) (w .path))) (λ w. length (w .path) ≤ maxPathLength) W
-      (λ (w : Weighted) t. omega (arith, path-inside (graphOf s) (g .well-formed) (w .path) t .2, g .few-vertices)) (c .are-paths)
+      (λ (w : Weighted) t. omega (arith, path-inside (graphOf s) (graph-well-formed s r) (w .path) t .2, graph-within s r .few-vertices)) (c .are-paths)
 
   vertices-low : All (λ w. All (λ v. v < 256) (w .path)) W
   vertices-low =
       all-weaken (λ w. T (isPath (graphOf s) (w .path))) (λ w. All (λ v. v < 256) (w .path)) W
-      (λ (w : Weighted) t. all-weaken (λ v. v < length (graphOf s .vertices)) (λ v. v < 256) (w .path) (λ v l. omega (arith, g .few-vertices)) (path-inside (graphOf s) (g .well-formed) (w .path) t .0)) (c .are-paths)
+      (λ (w : Weighted) t. all-weaken (λ v. v < length (graphOf s .vertices)) (λ v. v < 256) (w .path) (λ v l. omega (arith, graph-within s r .few-vertices)) (path-inside (graphOf s) (graph-well-formed s r) (w .path) t .0)) (c .are-paths)
 
   all-holdable : (U : List Weighted) → All (λ w. w .weight ≤ maxWeight) U → All (λ w. length (w .path) ≤ maxPathLength) U → All (λ w. All (λ v. v < 256) (w .path)) U → All Holdable U
   all-holdable [] a b d = tt
@@ -193,51 +196,41 @@ module _ (s : List ℕ) (g : ReadGives s) (W : List Weighted) (c : IsCover (grap
       (m : Marks ℤ) → MarksFit s m → Shows whole (graphOf s) m W → Acceptable s W
   unfolding form
   shown-acceptable reads few light ascending m fit shown =
-      let (p, l, e) =
-      price-at-most (graphOf s) maxOpening maxCost maxPathLength (g .low-opening) (g .low-costs) W paths-short in
+      let q = price-at-most (graphOf s) maxOpening maxCost maxPathLength (graph-within s r .low-opening) (graph-within s r .arc-costs) W paths-short in
+      let p = q .number in
+      let e : price whole (graphOf s) W ≡ pos p = q .is in
+      let l : p ≤ totalWeight W * 1_064_000_000 = q .low in
       let holdable = all-holdable W (weights-low maxWeight W light) paths-short vertices-low in
-      let small : vertexCount s ≤ maxVertices = omega (arith, g .few-vertices, vertices-length s) in
+      let small : vertexCount s ≤ maxVertices = omega (arith, graph-within s r .few-vertices, vertices-length s) in
       record {
         marks = m;
         marks-fit = fit;
         stated = p;
         price-stated = e;
-        accepted = accepted-nothing-refused s (encodeAnswer (vertexCount s) p m W) (shown-accepted s g reads W c few light ascending m fit p shown e);
+        accepted = accepted-nothing-refused s (encodeAnswer (vertexCount s) p m W) (shown-accepted s r reads W c few light ascending m fit p shown e);
         gives = Encoding.encoded-cover (vertexCount s) p m W;
         bytes = Encoding.encoded-bytes (vertexCount s) p m W small few holdable (omega arith) (λ v k. fit v (subst (λ n. v < n) (sym (vertices-length s)) k));
         fits = Encoding.encoded-fits (vertexCount s) p m W small few holdable;
       }
 
--- a cover with marks that show it, within the limits of the graph
-pub record Best (P : Prices) (G : Graph (P .El)) : Type 0 where
-  pub cover : List Weighted
-  pub marks : Marks (P .El)
-  pub is-cover : IsCover G cover
-  pub slacks-hold : SlacksHold P G marks
-  pub price-is-bound : price P G cover ≡ bound P G marks
-  pub few-paths : length cover ≤ pathLimit G
-  pub few-copies : totalWeight cover ≤ weightLimit G
-  pub marks-within : (v : ℕ) → v < length (G .vertices) → MarkWithin P G (2 * length (G .vertices)) (marks .into v) × MarkWithin P G (2 * length (G .vertices)) (marks .out v)
-
-module _ (read-gives : (s : List ℕ) → graphVerdict s .number ≡ 0 → ReadGives s)
-    (strong-duality : (G : Graph ℤ) → WellFormed G → CostsHold whole G → Coverable G → Best whole G) (s : List ℕ) (reads : graphVerdict s .number ≡ 0) where
-  known : ReadGives s
-  known = read-gives s reads
+module _ (s : List ℕ) (reads : graphVerdict s .number ≡ 0) where
+  known : Reads s
+  known = number-zero-iff-reads s .0 reads
 
   best : Coverable (graphOf s) → Best whole (graphOf s)
-  best c = strong-duality (graphOf s) (known .well-formed) (known .costs-hold) c
+  best c = strong-duality whole whole-ordered (graphOf s) (graph-well-formed s known) (graph-costs-hold s) c
 
   best-lowest : (c : Coverable (graphOf s)) → IsLowest whole (graphOf s) (best c .cover)
   best-lowest c =
-      shown-is-lowest whole whole-ordered (graphOf s) (known .well-formed) (best c .marks) (best c .cover) (best c .is-cover) (best c .slacks-hold, sym (best c .price-is-bound))
+      shown-is-lowest whole whole-ordered (graphOf s) (graph-well-formed s known) (best c .marks) (best c .cover) (best c .is-cover) (best c .slacks-hold, sym (best c .price-is-bound))
 
   best-fits : (c : Coverable (graphOf s)) → MarksFit s (best c .marks)
   best-fits c v l =
-      let (o, h, e) = known .low-opening in
-      let few : length (graphOf s .vertices) ≤ 256 = omega (arith, known .few-vertices) in
+      let o = graph-within s known .low-opening in
+      let few : length (graphOf s .vertices) ≤ 256 = omega (arith, graph-within s known .few-vertices) in
       let within = best c .marks-within v l in (
-        whole-marks-fit (graphOf s) o (best c .marks .into v) few h e (known .low-costs) (within .0),
-        whole-marks-fit (graphOf s) o (best c .marks .out v) few h e (known .low-costs) (within .1),
+        whole-marks-fit (graphOf s) (o .number) (best c .marks .into v) few (o .low) (o .is) (costs-low (graphOf s) (graph-within s known)) (within .0),
+        whole-marks-fit (graphOf s) (o .number) (best c .marks .out v) few (o .low) (o .is) (costs-low (graphOf s) (graph-within s known)) (within .1),
       )
 
   -- Every lowest-price cover within the limits of the answer form, in ascending order, has marks with which its form is accepted.
@@ -250,13 +243,13 @@ module _ (read-gives : (s : List ℕ) → graphVerdict s .number ≡ 0 → ReadG
   -- A cover is a set: in whatever order a lowest-price cover comes, put in ascending order it is accepted.
   pub lowest-cover-accepted-sorted : (W : List Weighted) → IsLowest whole (graphOf s) W → length W ≤ maxPaths → totalWeight W ≤ maxWeight → Acceptable s (sorted W)
   lowest-cover-accepted-sorted W w few light =
-      lowest-cover-accepted (sorted W) (sorted-lowest whole whole-ordered (graphOf s) (known .well-formed) W w)
+      lowest-cover-accepted (sorted W) (sorted-lowest whole whole-ordered (graphOf s) (graph-well-formed s known) W w)
       (subst (λ k. k ≤ maxPaths) (sym (sorted-length W)) few) (subst (λ k. k ≤ maxWeight) (sym (sorted-weight W)) light)
       (sorted-ascends (graphOf s) W (w .cover .are-paths) (w .cover .distinct))
 
   -- Where a cover exists some answer form is accepted: a checker that refuses always is shut out.
   pub something-is-accepted : Coverable (graphOf s) → (W : List Weighted) × Acceptable s W
   something-is-accepted c =
-      let few = path-limit-464 (graphOf s) (known .few-vertices) (known .few-arcs) (known .few-reads) in
-      let light = weight-limit-320000016 (graphOf s) (known .few-vertices) (known .few-arcs) (known .few-reads) (known .low-demands) in
+      let few = path-limit-464 (graphOf s) (graph-within s known .few-vertices) (graph-within s known .few-arcs) (graph-within s known .few-reads) in
+      let light = weight-limit-320000016 (graphOf s) (graph-within s known .few-vertices) (graph-within s known .few-arcs) (graph-within s known .few-reads) (demands-low (graphOf s) (graph-within s known)) in
       (sorted (best c .cover), lowest-cover-accepted-sorted (best c .cover) (best-lowest c) (omega (arith, best c .few-paths)) (omega (arith, best c .few-copies)))

@@ -25,6 +25,7 @@ use Rattle.checker.specs.GraphFaults.{refusal, nothingRefused, orElse, a
 use Rattle.checker.specs.AnswerForm.{answerLengthWord, answerVersion, pathCount, statedPrice, markLength, inMarkAt, signed32, marksOf, firstPathAt, pathHeaderLength, pathWeight, pathLength, pathVertices, pathEnd, coverOf}
 use Rattle.checker.specs.AnswerFaults.{answerHeaderVerdict, markFault, marksVerdict, listBefore, pathFault, pathsVerdict}
 use Rattle.checker.specs.Check.{samePrice, demandsVerdict, readsMetVerdict, vertexSlacksVerdict, arcSlacksVerdict, certificateVerdict, answerVerdict, checkVerdict, handOutVerdict, handedOut}
+use Rattle.checker.proofs.GraphReads.{number-to-seven}
 use Rattle.checker.proofs.Accepted.{number-zero-accepted, accepted-nothing-refused}
 use Rattle.checker.proofs.HandedOut.{number-zero-handed-out}
 
@@ -149,19 +150,18 @@ answer-numbered s t =
     (marks-numbered t (2 * vertexCount s) (inMarkAt 0) walked
     (paths-numbered s t (pathCount t) (firstPathAt (vertexCount s)) [] 0 last (certificate-numbered whole (graphOf s) (coverOf (vertexCount s) t) (pos (statedPrice t)) (marksOf t))))
 
-module _ (graph-number : (s : List ℕ) → graphVerdict s .number ≤ 7) where
-  -- the check's number is one of 0 to 7 and 11 to 22
-  pub check-number : (s t : List ℕ) → (checkVerdict s t .number ≤ 7) ⊎ ((11 ≤ checkVerdict s t .number) × (checkVerdict s t .number ≤ 22))
-  unfolding checkVerdict
-  check-number s t =
-      either (λ v. (v .number ≤ 7) ⊎ ((11 ≤ v .number) × (v .number ≤ 22))) (eqb (graphVerdict s .number) 0) (answerVerdict s t) (graphVerdict s)
-      (elim (answer-numbered s t) [ inl e ↦ inl (omega arith) | inr h ↦ inr h ]) (inl (graph-number s))
+-- the check's number is one of 0 to 7 and 11 to 22
+pub check-number : (s t : List ℕ) → (checkVerdict s t .number ≤ 7) ⊎ ((11 ≤ checkVerdict s t .number) × (checkVerdict s t .number ≤ 22))
+unfolding checkVerdict
+check-number s t =
+    either (λ v. (v .number ≤ 7) ⊎ ((11 ≤ v .number) × (v .number ≤ 22))) (eqb (graphVerdict s .number) 0) (answerVerdict s t) (graphVerdict s)
+    (elim (answer-numbered s t) [ inl e ↦ inl (omega arith) | inr h ↦ inr h ]) (inl (number-to-seven s))
 
-  -- the sister call's may be 23 too
-  pub hand-out-number : (s t : List ℕ) (k : ℕ) → (handOutVerdict s t k .number ≤ 7) ⊎ ((11 ≤ handOutVerdict s t k .number) × (handOutVerdict s t k .number ≤ 23))
-  unfolding handOutVerdict
-  hand-out-number s t k =
-      let One : Verdict → Type 0 = λ v. (v .number ≤ 7) ⊎ ((11 ≤ v .number) × (v .number ≤ 23)) in
-      either One (eqb (checkVerdict s t .number) 0) (cond (ltb k (pathCount t)) nothingRefused (refusal 23 0)) (checkVerdict s t)
-      (either One (ltb k (pathCount t)) nothingRefused (refusal 23 0) (inl (omega arith)) (inr (omega arith)))
-      (elim (check-number s t) [ inl e ↦ inl e | inr h ↦ inr (h .0, omega (arith, h .1)) ])
+-- the sister call's may be 23 too
+pub hand-out-number : (s t : List ℕ) (k : ℕ) → (handOutVerdict s t k .number ≤ 7) ⊎ ((11 ≤ handOutVerdict s t k .number) × (handOutVerdict s t k .number ≤ 23))
+unfolding handOutVerdict
+hand-out-number s t k =
+    let One : Verdict → Type 0 = λ v. (v .number ≤ 7) ⊎ ((11 ≤ v .number) × (v .number ≤ 23)) in
+    either One (eqb (checkVerdict s t .number) 0) (cond (ltb k (pathCount t)) nothingRefused (refusal 23 0)) (checkVerdict s t)
+    (either One (ltb k (pathCount t)) nothingRefused (refusal 23 0) (inl (omega arith)) (inr (omega arith)))
+    (elim (check-number s t) [ inl e ↦ inl e | inr h ↦ inr (h .0, omega (arith, h .1)) ])

@@ -15,7 +15,7 @@ use Rattle.mathematics.specs.Lists.{All}
 use Rattle.mathematics.specs.Cover.{Weighted}
 use Rattle.mathematics.specs.Bound.{Marks}
 use Rattle.mathematics.proofs.Basics.{all-append}
-use Rattle.checker.specs.Bytes.{byte, be16, be32, be64}
+use Rattle.checker.specs.Bytes.{byte, be16, be32, be64, part}
 use Rattle.checker.specs.Limits.{maxPaths, markLimit, maxPathLength, maxVertices}
 use Rattle.checker.specs.AnswerForm.{answerLengthWord, answerVersion, pathCount, statedPrice, inMarkAt, outMarkAt, signed32, marksOf, firstPathAt, pathWeight, pathLength, pathVertices, pathEnd, pathsFrom, coverOf}
 use Rattle.checker.specs.Encode.{bytes16, bytes32, bytes64, word32, markBytes, pathBytes, afterLength, encodeAnswer}
@@ -99,6 +99,7 @@ module _ (w : Weighted) (W : List Weighted) (p : List ℕ) (at : ℕ) (e : lengt
   record-length = ap (byte (p ++ pathBytes (w ∷ W))) (at-front 4) ∙ byte-behind p (pathBytes (w ∷ W)) 4
 
   pub record-path : pathVertices (p ++ pathBytes (w ∷ W)) at ≡ w .path
+  unfolding part
   record-path =
       ap₂ (λ c k. take c (drop k (p ++ pathBytes (w ∷ W)))) record-length (at-front 5) ∙
       (ap (take (length (w .path))) (drop-append-add p (pathBytes (w ∷ W)) 5) ∙ take-append-seam (w .path) (pathBytes W))

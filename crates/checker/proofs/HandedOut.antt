@@ -13,11 +13,10 @@ use Rattle.mathematics.specs.Cover.{Weighted, IsLowest}
 use Rattle.checker.specs.Bytes.{part}
 use Rattle.checker.specs.GraphForm.{vertexCount}
 use Rattle.checker.specs.GraphOf.{graphOf}
-use Rattle.checker.specs.GraphFaults.{refusal, nothingRefused, graphVerdict}
+use Rattle.checker.specs.GraphFaults.{refusal, nothingRefused}
 use Rattle.checker.specs.AnswerForm.{pathCount, firstPathAt, pathHeaderLength, pathWeight, pathLength, pathVertices, pathEnd, pathOf, pathsFrom, coverOf}
 use Rattle.checker.specs.Check.{checkVerdict, handOutVerdict, pathAt, handedOut}
 use Rattle.checker.proofs.Accepted.{earlier-first, held, PathsRight, number-zero-accepted}
-use Rattle.checker.proofs.ReadGives.{ReadGives}
 use Rattle.checker.proofs.Soundness.{accepted-is-lowest}
 
 -- what stands for a path whose number is not below the number of paths
@@ -59,23 +58,22 @@ pub record HandsOut (s t : List ℕ) (k : ℕ) : Type 0 where
   pub within : start + count ≤ length t
   pub is-part : handedOut s t k ≡ part t start count
 
-module _ (read-gives : (s : List ℕ) → graphVerdict s .number ≡ 0 → ReadGives s) where
-  -- the vertex bytes of path k of the answer, whose paths are a lowest-price cover of the graph, as a part of the answer
-  pub handed-out-is-path-k : (s t : List ℕ) (k : ℕ) → handOutVerdict s t k .number ≡ 0 → HandsOut s t k
-  unfolding handedOut coverOf
-  handed-out-is-path-k s t k e =
-      let h = number-zero-handed-out s t k e in
-      let at = pathAt t k (firstPathAt (vertexCount s)) in
-      let vertices : handedOut s t k ≡ pathVertices t at = simp (eq-eqb _ _ e) in
-      record {
-        lowest = accepted-is-lowest read-gives s t (h .0) .0;
-        is-one = subst (λ n. k < n) (sym (paths-length t (pathCount t) (firstPathAt (vertexCount s)))) (h .1);
-        is-path-k = vertices ∙ sym (ap (λ (w : Weighted). w .path) (path-k t (pathCount t) (firstPathAt (vertexCount s)) k (h .1)));
-        start = at + pathHeaderLength;
-        count = pathLength t at;
-        within = path-k-within t s (pathCount t) (firstPathAt (vertexCount s)) k [] 0 (number-zero-accepted s t (h .0) .paths) (h .1);
-        is-part = vertices;
-      }
+-- the vertex bytes of path k of the answer, whose paths are a lowest-price cover of the graph, as a part of the answer
+pub handed-out-is-path-k : (s t : List ℕ) (k : ℕ) → handOutVerdict s t k .number ≡ 0 → HandsOut s t k
+unfolding handedOut coverOf
+handed-out-is-path-k s t k e =
+    let h = number-zero-handed-out s t k e in
+    let at = pathAt t k (firstPathAt (vertexCount s)) in
+    let vertices : handedOut s t k ≡ pathVertices t at = simp (eq-eqb _ _ e) in
+    record {
+      lowest = accepted-is-lowest s t (h .0) .0;
+      is-one = subst (λ n. k < n) (sym (paths-length t (pathCount t) (firstPathAt (vertexCount s)))) (h .1);
+      is-path-k = vertices ∙ sym (ap (λ (w : Weighted). w .path) (path-k t (pathCount t) (firstPathAt (vertexCount s)) k (h .1)));
+      start = at + pathHeaderLength;
+      count = pathLength t at;
+      within = path-k-within t s (pathCount t) (firstPathAt (vertexCount s)) k [] 0 (number-zero-accepted s t (h .0) .paths) (h .1);
+      is-part = vertices;
+    }
 
 -- an empty part where the checker would refuse or 23 holds
 pub handed-out-empty : (s t : List ℕ) (k : ℕ) → (handOutVerdict s t k .number ≡ 0 → ⊥) → handedOut s t k ≡ []

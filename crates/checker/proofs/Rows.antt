@@ -20,14 +20,15 @@ use Rattle.mathematics.specs.Range.{OneOf}
 use Rattle.mathematics.specs.Reach.{itemList, itemLies, askLies, fromStart, toEnd}
 use Rattle.mathematics.proofs.Basics.{all-among, all-weaken}
 use Rattle.mathematics.proofs.Existence.{cover-shows-coverable, asks-linked, ask-lies}
-use Rattle.checker.specs.Bytes.{be16, be32, be64}
+use Rattle.checker.specs.Bytes.{be16, be32, be64, part}
 use Rattle.checker.specs.GraphForm.{vertexCount}
 use Rattle.checker.specs.GraphOf.{graphOf}
-use Rattle.checker.specs.GraphFaults.{refusal, nothingRefused, headerVerdict, vertexFault, arcFault, readFault, verticesVerdict, arcsVerdict, readsVerdict, graphVerdict}
+use Rattle.checker.specs.GraphFaults.{refusal, nothingRefused, then, firstFault, headerVerdict, vertexFault, arcFault, walks, readFault, readsVerdict, graphVerdict}
 use Rattle.checker.specs.AnswerForm.{statedPrice, signed32, marksOf, coverOf}
 use Rattle.checker.specs.AnswerFaults.{answerHeaderVerdict, markFault, marksVerdict, pathFault, pathsVerdict}
 use Rattle.checker.specs.Check.{demandsVerdict, readsMetVerdict, vertexSlacksVerdict, arcSlacksVerdict, certificateVerdict, answerVerdict, checkVerdict}
-use Rattle.checker.proofs.ReadGives.{ReadGives}
+use Rattle.checker.proofs.GraphReads.{number-zero-iff-reads}
+use Rattle.checker.proofs.GraphFacts.{graph-well-formed}
 use Rattle.checker.proofs.Soundness.{accepted-is-lowest}
 
 -- a row: graph bytes with, as the case may be, answer bytes, the paths and the price that they state; answer bytes and the refusal's number and place;
@@ -119,7 +120,7 @@ Computes (shut s item) =
     (graphVerdict s .number ≡ 0) × T (ltb item (length (asks (graphOf s)))) × All (λ a. T (askLies (graphOf s) a)) (take item (asks (graphOf s))) × T (not (askLies (graphOf s) (getD (asks (graphOf s)) item noAsk)))
 
 rows-compute : All Computes rows
-unfolding rows prepare overlap longest joinAt bound be16 be32 be64 graphOf headerVerdict vertexFault arcFault readFault verticesVerdict arcsVerdict readsVerdict graphVerdict signed32 marksOf coverOf answerHeaderVerdict markFault marksVerdict pathFault pathsVerdict demandsVerdict readsMetVerdict vertexSlacksVerdict arcSlacksVerdict certificateVerdict answerVerdict checkVerdict fromStart toEnd
+unfolding rows prepare overlap longest joinAt bound be16 be32 be64 part graphOf then firstFault headerVerdict vertexFault arcFault walks readFault readsVerdict graphVerdict signed32 marksOf coverOf answerHeaderVerdict markFault marksVerdict pathFault pathsVerdict demandsVerdict readsMetVerdict vertexSlacksVerdict arcSlacksVerdict certificateVerdict answerVerdict checkVerdict fromStart toEnd
 rows-compute = (
   (refl, refl, refl),
   (
@@ -140,39 +141,38 @@ asks-for G a h = at (a .demand) h
     at zero z = absurd z
     at (suc d) z = omega arith
 
-module _ (read-gives : (s : List ℕ) → graphVerdict s .number ≡ 0 → ReadGives s) where
-  row-holds : (r : Row) → Computes r → RowHolds r
-  row-holds (priced s t W p) c =
-      let h = accepted-is-lowest read-gives s t (ap (λ v. v .number) (c .0)) in
-      (c .0, c .1, subst (IsLowest whole (graphOf s)) (c .1) (h .0), ap (price whole (graphOf s)) (sym (c .1)) ∙ (h .1 ∙ ap pos (c .2)))
-  row-holds (refused s t number place) c = c
-  row-holds (shut s item) c = (
-    c .0,
-    record {
-      before-lie = c .2;
-      asks-something = asked;
-      on-no-path = off;
-      no-cover = λ W w. off (all-among (λ a. 1 ≤ a .demand → ItemOnPath G (a .item)) (asks G) ask (cover-shows-coverable G W w .items-lie) one asked);
-    },
-  )
-    where
-      G : Graph ℤ
-      G = graphOf s
+row-holds : (r : Row) → Computes r → RowHolds r
+row-holds (priced s t W p) c =
+    let h = accepted-is-lowest s t (ap (λ v. v .number) (c .0)) in
+    (c .0, c .1, subst (IsLowest whole (graphOf s)) (c .1) (h .0), ap (price whole (graphOf s)) (sym (c .1)) ∙ (h .1 ∙ ap pos (c .2)))
+row-holds (refused s t number place) c = c
+row-holds (shut s item) c = (
+  c .0,
+  record {
+    before-lie = c .2;
+    asks-something = asked;
+    on-no-path = off;
+    no-cover = λ W w. off (all-among (λ a. 1 ≤ a .demand → ItemOnPath G (a .item)) (asks G) ask (cover-shows-coverable G W w .items-lie) one asked);
+  },
+)
+  where
+    G : Graph ℤ
+    G = graphOf s
 
-      ask : Ask
-      ask = getD (asks G) item noAsk
+    ask : Ask
+    ask = getD (asks G) item noAsk
 
-      one : OneOf (asks G) ask
-      one = getD-among (asks G) item noAsk (ltb→lt _ _ (c .1))
+    one : OneOf (asks G) ask
+    one = getD-among (asks G) item noAsk (ltb→lt _ _ (c .1))
 
-      asked : 1 ≤ ask .demand
-      asked = asks-for G ask (c .3)
+    asked : 1 ≤ ask .demand
+    asked = asks-for G ask (c .3)
 
-      off : ItemOnPath G (ask .item) → ⊥
-      off p =
-          T-not (askLies G ask) (c .3)
-          (ask-lies G (read-gives s (c .0) .well-formed) ask (all-among (λ a. T (linked (G .arcs) (itemList (a .item)))) (asks G) ask (asks-linked G) one) .1 (λ d. p))
+    off : ItemOnPath G (ask .item) → ⊥
+    off p =
+        T-not (askLies G ask) (c .3)
+        (ask-lies G (graph-well-formed s (number-zero-iff-reads s .0 (c .0))) ask (all-among (λ a. T (linked (G .arcs) (itemList (a .item)))) (asks G) ask (asks-linked G) one) .1 (λ d. p))
 
-  -- every marked row of document 01 holds
-  pub rows-hold : All RowHolds rows
-  rows-hold = all-weaken Computes RowHolds rows row-holds rows-compute
+-- every marked row of document 01 holds
+pub rows-hold : All RowHolds rows
+rows-hold = all-weaken Computes RowHolds rows row-holds rows-compute

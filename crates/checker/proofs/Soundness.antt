@@ -14,12 +14,12 @@ use Rattle.mathematics.proofs.PriceKinds.{whole-ordered}
 use Rattle.mathematics.proofs.Lowest.{shown-is-lowest}
 use Rattle.checker.specs.GraphForm.{vertexCount}
 use Rattle.checker.specs.GraphOf.{graphOf}
-use Rattle.checker.specs.GraphFaults.{graphVerdict}
 use Rattle.checker.specs.AnswerForm.{pathCount, statedPrice, marksOf, firstPathAt, pathWeight, pathVertices, pathEnd, pathsFrom, coverOf}
 use Rattle.checker.specs.Check.{samePrice, checkVerdict}
 use Rattle.checker.proofs.Accepted.{PathsRight, Accepted, number-zero-accepted}
 use Rattle.checker.proofs.Ascending.{Ascending, ascending-distinct}
-use Rattle.checker.proofs.ReadGives.{ReadGives}
+use Rattle.checker.proofs.GraphReads.{number-zero-iff-reads}
+use Rattle.checker.proofs.GraphFacts.{graph-well-formed}
 
 -- two prices of which neither is above the other are one
 same-price : (P : Prices) → Ordered P → (a b : P .El) → T (samePrice P a b) → a ≡ b
@@ -56,14 +56,14 @@ module _ (s t : List ℕ) where
         reads-met = h .certificate .reads-met;
       }
 
-module _ (read-gives : (s : List ℕ) → graphVerdict s .number ≡ 0 → ReadGives s) where
-  -- The paths of an accepted answer are a cover of the graph of these graph bytes, at the stated price, and no cover, of any size, has a lower price.
-  pub accepted-is-lowest : (s t : List ℕ) → checkVerdict s t .number ≡ 0 →
-      IsLowest whole (graphOf s) (coverOf (vertexCount s) t) × (price whole (graphOf s) (coverOf (vertexCount s) t) ≡ pos (statedPrice t))
-  accepted-is-lowest s t e =
-      let h = number-zero-accepted s t e in
-      let G = graphOf s in
-      let W = coverOf (vertexCount s) t in
-      let p = same-price whole whole-ordered (price whole G W) (pos (statedPrice t)) (h .certificate .price-stated) in
-      let b = same-price whole whole-ordered (bound whole G (marksOf t)) (pos (statedPrice t)) (h .certificate .bound-stated) in
-      (shown-is-lowest whole whole-ordered G (read-gives s (h .graph-reads) .well-formed) (marksOf t) W (accepted-is-cover s t h) (h .certificate .slacks-hold, b ∙ sym p), p)
+-- The paths of an accepted answer are a cover of the graph of these graph bytes, at the stated price, and no cover, of any size, has a lower price.
+pub accepted-is-lowest : (s t : List ℕ) → checkVerdict s t .number ≡ 0 →
+    IsLowest whole (graphOf s) (coverOf (vertexCount s) t) × (price whole (graphOf s) (coverOf (vertexCount s) t) ≡ pos (statedPrice t))
+accepted-is-lowest s t e =
+    let h = number-zero-accepted s t e in
+    let G = graphOf s in
+    let W = coverOf (vertexCount s) t in
+    let p = same-price whole whole-ordered (price whole G W) (pos (statedPrice t)) (h .certificate .price-stated) in
+    let b = same-price whole whole-ordered (bound whole G (marksOf t)) (pos (statedPrice t)) (h .certificate .bound-stated) in
+    let g = graph-well-formed s (number-zero-iff-reads s .0 (h .graph-reads)) in
+    (shown-is-lowest whole whole-ordered G g (marksOf t) W (accepted-is-cover s t h) (h .certificate .slacks-hold, b ∙ sym p), p)
