@@ -2,8 +2,9 @@
 -- Soundness reads the conditions off an accepted answer; completeness shows them of the answer that it writes.
 use Prim.Native.Nat.{ℕ, zero, suc, _+_, _*_, _≤_}
 use native.Mathlib.Omega.{arith}
-use mathlib.Core.Path.{_≡_, refl, _∙_}
+use mathlib.Core.Path.{_≡_, refl, ap, _∙_}
 use mathlib.Core.List.{List, [], _∷_}
+use mathlib.Core.Logic.{_↔_}
 use mathlib.Core.Bool.{Bool, true, false, cond, not, _&&_, _||_}
 use lib.Dec.{T, ltb, leb, eqb, nltb→le, leb→le, le→leb, eqb→eq, eqb·suc-zero}
 use borrow.Author.Tests.{le-ltb, eq-eqb, ne-eqb, eqb-true, eqb-false}
@@ -187,8 +188,17 @@ path-passed s t at before copies h =
     let header : at + pathHeaderLength ≤ length t = omega (arith, h .within) in
     let length-not-0 : (pathLength t at ≡ 0 → ⊥) = λ e. omega (arith, h .some-vertex) in
     let weight-not-0 : (pathWeight t at ≡ 0 → ⊥) = λ e. omega (arith, h .some-copy) in
-    simp
-    (le-ltb _ _ header, ne-eqb _ _ length-not-0, le-ltb _ _ (h .few-vertices), le-ltb _ _ (h .within), ne-eqb _ _ weight-not-0, le-ltb _ _ (h .few-copies), is-true (allBelow (vertexCount s) (pathVertices t at)) (h .vertices-known), is-true (isPath (graphOf s) (pathVertices t at)) (h .is-path), is-true (listBefore before (pathVertices t at)) (h .ascends))
+    simp (
+      le-ltb _ _ header,
+      ne-eqb _ _ length-not-0,
+      le-ltb _ _ (h .few-vertices),
+      le-ltb _ _ (h .within),
+      ne-eqb _ _ weight-not-0,
+      le-ltb _ _ (h .few-copies),
+      is-true (allBelow (vertexCount s) (pathVertices t at)) (h .vertices-known),
+      is-true (isPath (graphOf s) (pathVertices t at)) (h .is-path),
+      is-true (listBefore before (pathVertices t at)) (h .ascends),
+    )
 
 paths-read : (s t : List ℕ) (count at : ℕ) (before : List ℕ) (copies : ℕ) (after : Verdict) → pathsVerdict s t count at before copies after .number ≡ 0 →
     PathsRight s t count at before copies × (after .number ≡ 0)
@@ -364,3 +374,7 @@ number-zero-accepted s t e =
 pub accepted-nothing-refused : (s t : List ℕ) → Accepted s t → checkVerdict s t ≡ nothingRefused
 unfolding checkVerdict
 accepted-nothing-refused s t h = simp (eq-eqb _ _ (h .graph-reads)) (answer-passed s t h)
+
+-- the number is 0 exactly where each test of numbers 1 to 22 passes
+pub number-zero-iff-accepted : (s t : List ℕ) → (checkVerdict s t .number ≡ 0) ↔ Accepted s t
+number-zero-iff-accepted s t = (number-zero-accepted s t, λ h. ap (λ (v : Verdict). v .number) (accepted-nothing-refused s t h))

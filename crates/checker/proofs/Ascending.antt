@@ -46,7 +46,8 @@ before-trans (x ∷ p) [] r t u = absurd t
 before-trans (x ∷ p) (y ∷ q) [] t u = absurd u
 before-trans (x ∷ p) (y ∷ q) (z ∷ r) t u = at (before-cases x y p q t) (before-cases y z q r u) (before-trans p q r)
   where
-    at : (x < y) ⊎ ((x ≡ y) × T (listBefore p q)) → (y < z) ⊎ ((y ≡ z) × T (listBefore q r)) → (T (listBefore p q) → T (listBefore q r) → T (listBefore p r)) → T (listBefore (x ∷ p) (z ∷ r))
+    at : (x < y) ⊎ ((x ≡ y) × T (listBefore p q)) → (y < z) ⊎ ((y ≡ z) × T (listBefore q r)) →
+        (T (listBefore p q) → T (listBefore q r) → T (listBefore p r)) → T (listBefore (x ∷ p) (z ∷ r))
     at (inl l) (inl k) f = before-less x z p r (omega arith)
     at (inl l) (inr k) f = before-less x z p r (let e : y ≡ z = k .0 in omega arith)
     at (inr l) (inl k) f = before-less x z p r (let e : x ≡ y = l .0 in omega arith)

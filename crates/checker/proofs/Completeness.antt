@@ -75,7 +75,9 @@ module _ (s : List ℕ) (r : Reads s) where
       within = omega (arith, ap length (record-split w W p at e), length-append (p ++ pathRecord w) (pathBytes W), record-end w W p at e);
       some-copy = omega (arith, weight, k .0);
       few-copies = omega (arith, weight);
-      vertices-known = subst (λ q. T (allBelow (vertexCount s) q)) (sym path) (all-below (vertexCount s) (w .path) (subst (λ n. All (λ v. v < n) (w .path)) (vertices-length s) (inside .0)));
+      vertices-known =
+          subst (λ q. T (allBelow (vertexCount s) q)) (sym path)
+          (all-below (vertexCount s) (w .path) (subst (λ n. All (λ v. v < n) (w .path)) (vertices-length s) (inside .0)));
       is-path = subst (λ q. T (isPath (graphOf s) q)) (sym path) (h .0);
       ascends = subst (λ q. T (listBefore before q)) (sym path) (a .0);
     },
@@ -149,13 +151,15 @@ module _ (s : List ℕ) (r : Reads s) where
             };
             marks = form-marks;
             paths = form-paths;
-            certificate = subst₂ (λ U q. Certified whole (graphOf s) U (pos q) (marksOf form)) (sym (Encoding.encoded-cover (vertexCount s) p m W)) (sym (Encoding.encoded-price (vertexCount s) p m W))
+            certificate = subst₂ (λ U q. Certified whole (graphOf s) U (pos q) (marksOf form)) (sym (Encoding.encoded-cover (vertexCount s) p m W))
+                (sym (Encoding.encoded-price (vertexCount s) p m W))
                 (record {
                   demands-met = c .demands-met;
                   reads-met = c .reads-met;
                   price-stated = equal-same (price whole (graphOf s) W) (pos p) e;
                   slacks-hold = slacks-agree whole (graphOf s) (graph-well-formed s r) m (marksOf form) agree (shown .0);
-                  bound-stated = equal-same (bound whole (graphOf s) (marksOf form)) (pos p) (sym (bound-agrees whole (graphOf s) (graph-well-formed s r) m (marksOf form) agree) ∙ (shown .1 ∙ e));
+                  bound-stated = equal-same (bound whole (graphOf s) (marksOf form)) (pos p)
+                      (sym (bound-agrees whole (graphOf s) (graph-well-formed s r) m (marksOf form) agree) ∙ (shown .1 ∙ e));
                 });
           }
 
@@ -170,37 +174,32 @@ pub record Acceptable (s : List ℕ) (W : List Weighted) : Type 0 where
   pub bytes : Bytes (encodeAnswer (vertexCount s) stated marks W)
   pub fits : length (encodeAnswer (vertexCount s) stated marks W) ≤ 32_543
 
--- each weight is part of the total
-weights-low : (k : ℕ) (W : List Weighted) → totalWeight W ≤ k → All (λ w. w .weight ≤ k) W
-weights-low k [] h = tt
-weights-low k (w ∷ W) h = (omega arith, weights-low k W (omega arith))
-
-module _ (s : List ℕ) (r : Reads s) (W : List Weighted) (c : IsCover (graphOf s) W) where
-  paths-short : All (λ w. length (w .path) ≤ maxPathLength) W
-  paths-short =
-      all-weaken (λ w. T (isPath (graphOf s) (w .path))) (λ w. length (w .path) ≤ maxPathLength) W
-      (λ (w : Weighted) t. omega (arith, path-inside (graphOf s) (graph-well-formed s r) (w .path) t .2, graph-within s r .few-vertices)) (c .are-paths)
-
-  vertices-low : All (λ w. All (λ v. v < 256) (w .path)) W
-  vertices-low =
-      all-weaken (λ w. T (isPath (graphOf s) (w .path))) (λ w. All (λ v. v < 256) (w .path)) W
-      (λ (w : Weighted) t. all-weaken (λ v. v < length (graphOf s .vertices)) (λ v. v < 256) (w .path) (λ v l. omega (arith, graph-within s r .few-vertices)) (path-inside (graphOf s) (graph-well-formed s r) (w .path) t .0)) (c .are-paths)
-
-  all-holdable : (U : List Weighted) → All (λ w. w .weight ≤ maxWeight) U → All (λ w. length (w .path) ≤ maxPathLength) U → All (λ w. All (λ v. v < 256) (w .path)) U → All Holdable U
-  all-holdable [] a b d = tt
-  all-holdable (w ∷ U) a b d =
-      (record { low-weight = omega (arith, a .0); few-vertices = b .0; low-vertices = d .0 }, all-holdable U (a .1) (b .1) (d .1))
+module _ (s : List ℕ) (r : Reads s) where
+  -- paths of the graph and weights of at most the limit fit the form's fields
+  all-holdable : (W : List Weighted) → totalWeight W ≤ maxWeight → All (λ w. T (isPath (graphOf s) (w .path))) W → All Holdable W
+  all-holdable [] l h = tt
+  all-holdable (w ∷ W) l h =
+      let inside = path-inside (graphOf s) (graph-well-formed s r) (w .path) (h .0) in
+      let few = graph-within s r .few-vertices in (
+        record {
+          low-weight = omega arith;
+          few-vertices = omega (arith, inside .2);
+          low-vertices = all-weaken (λ v. v < length (graphOf s .vertices)) (λ v. v < 256) (w .path) (λ v k. omega arith) (inside .0);
+        },
+        all-holdable W (omega arith) (h .1),
+      )
 
   -- marks in range that show a cover within the limits, in ascending order, make an accepted form of it
-  shown-acceptable : graphVerdict s .number ≡ 0 → length W ≤ maxPaths → totalWeight W ≤ maxWeight → Ascending [] (paths W) →
+  shown-acceptable : (W : List Weighted) → IsCover (graphOf s) W → graphVerdict s .number ≡ 0 → length W ≤ maxPaths → totalWeight W ≤ maxWeight → Ascending [] (paths W) →
       (m : Marks ℤ) → MarksFit s m → Shows whole (graphOf s) m W → Acceptable s W
   unfolding form
-  shown-acceptable reads few light ascending m fit shown =
-      let q = price-at-most (graphOf s) maxOpening maxCost maxPathLength (graph-within s r .low-opening) (graph-within s r .arc-costs) W paths-short in
+  shown-acceptable W c reads few light ascending m fit shown =
+      let holdable = all-holdable W light (c .are-paths) in
+      let short = all-weaken Holdable (λ w. length (w .path) ≤ maxPathLength) W (λ w h. h .few-vertices) holdable in
+      let q = price-at-most (graphOf s) maxOpening maxCost maxPathLength (graph-within s r .low-opening) (graph-within s r .arc-costs) W short in
       let p = q .number in
       let e : price whole (graphOf s) W ≡ pos p = q .is in
       let l : p ≤ totalWeight W * 1_064_000_000 = q .low in
-      let holdable = all-holdable W (weights-low maxWeight W light) paths-short vertices-low in
       let small : vertexCount s ≤ maxVertices = omega (arith, graph-within s r .few-vertices, vertices-length s) in
       record {
         marks = m;
@@ -250,6 +249,7 @@ module _ (s : List ℕ) (reads : graphVerdict s .number ≡ 0) where
   -- Where a cover exists some answer form is accepted: a checker that refuses always is shut out.
   pub something-is-accepted : Coverable (graphOf s) → (W : List Weighted) × Acceptable s W
   something-is-accepted c =
-      let few = path-limit-464 (graphOf s) (graph-within s known .few-vertices) (graph-within s known .few-arcs) (graph-within s known .few-reads) in
-      let light = weight-limit-320000016 (graphOf s) (graph-within s known .few-vertices) (graph-within s known .few-arcs) (graph-within s known .few-reads) (demands-low (graphOf s) (graph-within s known)) in
+      let w = graph-within s known in
+      let few = path-limit-464 (graphOf s) (w .few-vertices) (w .few-arcs) (w .few-reads) in
+      let light = weight-limit-320000016 (graphOf s) (w .few-vertices) (w .few-arcs) (w .few-reads) (demands-low (graphOf s) (graph-within s known)) in
       (sorted (best c .cover), lowest-cover-accepted-sorted (best c .cover) (best-lowest c) (omega (arith, best c .few-paths)) (omega (arith, best c .few-copies)))

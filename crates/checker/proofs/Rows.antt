@@ -117,7 +117,8 @@ abbrev Computes : Row → Type 0
 Computes (priced s t W p) = (checkVerdict s t ≡ nothingRefused) × (coverOf (vertexCount s) t ≡ W) × (statedPrice t ≡ p)
 Computes (refused s t number place) = checkVerdict s t ≡ refusal number place
 Computes (shut s item) =
-    (graphVerdict s .number ≡ 0) × T (ltb item (length (asks (graphOf s)))) × All (λ a. T (askLies (graphOf s) a)) (take item (asks (graphOf s))) × T (not (askLies (graphOf s) (getD (asks (graphOf s)) item noAsk)))
+    (graphVerdict s .number ≡ 0) × T (ltb item (length (asks (graphOf s)))) ×
+    All (λ a. T (askLies (graphOf s) a)) (take item (asks (graphOf s))) × T (not (askLies (graphOf s) (getD (asks (graphOf s)) item noAsk)))
 
 rows-compute : All Computes rows
 unfolding rows prepare overlap longest joinAt bound be16 be32 be64 part graphOf then firstFault headerVerdict vertexFault arcFault walks readFault readsVerdict graphVerdict signed32 marksOf coverOf answerHeaderVerdict markFault marksVerdict pathFault pathsVerdict demandsVerdict readsMetVerdict vertexSlacksVerdict arcSlacksVerdict certificateVerdict answerVerdict checkVerdict fromStart toEnd

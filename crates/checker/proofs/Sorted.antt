@@ -27,7 +27,8 @@ before-other [] (y ∷ q) d f = absurd (f tt)
 before-other (x ∷ p) [] d f = tt
 before-other (x ∷ p) (y ∷ q) d f = at (test (ltb y x)) (test (ltb x y)) (before-other p q)
   where
-    at : T (ltb y x) ⊎ (T (ltb y x) → ⊥) → T (ltb x y) ⊎ (T (ltb x y) → ⊥) → (p ≢ q → (T (listBefore p q) → ⊥) → T (listBefore q p)) → T (listBefore (y ∷ q) (x ∷ p))
+    at : T (ltb y x) ⊎ (T (ltb y x) → ⊥) → T (ltb x y) ⊎ (T (ltb x y) → ⊥) →
+        (p ≢ q → (T (listBefore p q) → ⊥) → T (listBefore q p)) → T (listBefore (y ∷ q) (x ∷ p))
     at (inl l) c rest = before-less y x q p (ltb→lt y x l)
     at (inr n) (inl l) rest = absurd (f (before-less x y p q (ltb→lt x y l)))
     at (inr n) (inr k) rest =
@@ -40,7 +41,8 @@ insert-ascends : (before : List ℕ) (w : Weighted) (W : List Weighted) → T (l
 insert-ascends before w [] l d h = (l, tt)
 insert-ascends before w (x ∷ W) l d h = at (listBefore (w .path) (x .path)) refl (insert-ascends (x .path) w W)
   where
-    at : (b : Bool) → listBefore (w .path) (x .path) ≡ b → (T (listBefore (x .path) (w .path)) → All (λ q. w .path ≢ q) (paths W) → Ascending (x .path) (paths W) → Ascending (x .path) (paths (insertPath w W))) →
+    at : (b : Bool) → listBefore (w .path) (x .path) ≡ b →
+        (T (listBefore (x .path) (w .path)) → All (λ q. w .path ≢ q) (paths W) → Ascending (x .path) (paths W) → Ascending (x .path) (paths (insertPath w W))) →
         Ascending before (paths (cond b (w ∷ x ∷ W) (x ∷ insertPath w W)))
     at true e rest = (l, (subst T (sym e) tt, h .1))
     at false e rest = (h .0, rest (before-other (w .path) (x .path) (d .0) (λ t. subst T e t)) (d .1) (h .1))
@@ -137,7 +139,8 @@ module _ {E : Type 0} (G : Graph E) where
         are-paths = sorted-all (λ w. T (isPath G (w .path))) W (c .are-paths);
         weights = sorted-all (λ w. 1 ≤ w .weight) W (c .weights);
         distinct = ascending-distinct [] (paths (sorted W)) (sorted-ascends W (c .are-paths) (c .distinct));
-        demands-met = all-weaken (λ a. a .demand ≤ total (a .item) W) (λ a. a .demand ≤ total (a .item) (sorted W)) (asks G) (λ (a : Ask) l. subst (λ k. a .demand ≤ k) (sym (sorted-total (a .item) W)) l) (c .demands-met);
+        demands-met = all-weaken (λ a. a .demand ≤ total (a .item) W) (λ a. a .demand ≤ total (a .item) (sorted W)) (asks G)
+            (λ (a : Ask) l. subst (λ k. a .demand ≤ k) (sym (sorted-total (a .item) W)) l) (c .demands-met);
         reads-met = all-weaken (λ r. T (someHolds (paths W) r)) (λ r. T (someHolds (paths (sorted W)) r)) (G .reads) (λ r t. sorted-holds W r t) (c .reads-met);
       }
 
