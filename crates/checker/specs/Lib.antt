@@ -9,3 +9,4 @@ pub mod Check
 pub mod GraphReads
 pub mod ArcTable
 pub mod Tallies
+pub mod Encode
