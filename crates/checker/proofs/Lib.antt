@@ -5,6 +5,7 @@ pub mod RecordLaws
 pub mod AnswerLaws
 pub mod AnswerReads
 pub mod AnswerWalk
+pub mod AnswerPaths
 pub mod ArcLaws
 pub mod WalkLaws
 pub mod ReadLaws

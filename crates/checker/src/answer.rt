@@ -18,10 +18,10 @@ ghost use Rattle.checker.specs.Bytes.{part};
 ghost use Rattle.checker.specs.GraphForm.{vertexCount, arcCount, flags, arcAt, arcCost};
 ghost use Rattle.checker.specs.GraphOf.{graphOf};
 ghost use Rattle.checker.specs.GraphFaults.{nothingRefused};
-ghost use Rattle.checker.specs.Limits.{maxReads, maxCost};
+ghost use Rattle.checker.specs.Limits.{maxReads, maxCost, maxWeight};
 ghost use Rattle.checker.specs.GraphReads.{Reads};
 ghost use Rattle.checker.specs.ArcTable.{ArcTable};
-ghost use Rattle.checker.specs.Tallies.{Marked, Room, Walked, PathWalked, goesOnTo, onward};
+ghost use Rattle.checker.specs.Tallies.{Marked, Room, Walked, PathWalked, goesOnTo, onward, pathHeadFault, PathHead, PathRead, NothingTallied, PathsRead};
 ghost use Rattle.checker.specs.AnswerForm.{signed32, inMarkAt};
 ghost use Rattle.checker.specs.AnswerFaults.{answerHeaderVerdict, markFault, marksVerdict, listBefore};
 
@@ -336,4 +336,33 @@ fn walk_path(
         vertex_totals,
         arc_totals,
     )
+}
+
+// What is wrong with a path's record, so far as it can be told without the graph: 15, 16, 15, 17 or nothing.
+fn path_head_fault(t: &[u8], at: usize, copies: usize) -> usize
+    requires { ⌜ (at ≤ length (now t)) × (copies ≤ maxWeight) ⌝ }
+    ensures { λ r. ⌜ r ≡ pathHeadFault (now (t .entry)) at copies ⌝ }
+    ensures right { λ r. ⌜ (r ≡ 0 → PathHead (now (t .entry)) at copies) ⌝ }
+{
+    if t.len() - at < Answer::PATH {
+        return 15;
+    }
+    let len = wide(t[at + 4]);
+    if len == 0 {
+        return 16;
+    }
+    if Answer::MAX_PATH < len {
+        return 16;
+    }
+    if t.len() < at + Answer::PATH + len {
+        return 15;
+    }
+    let weight = be32(t, at);
+    if weight == 0 {
+        return 17;
+    }
+    if Answer::MAX_WEIGHT < copies + weight {
+        return 17;
+    }
+    0
 }
