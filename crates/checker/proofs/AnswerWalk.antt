@@ -26,7 +26,7 @@ use Rattle.checker.specs.GraphOf.{graphOf, vertexOf, arcOf, arcsOf}
 use Rattle.checker.specs.GraphFaults.{allBelow}
 use Rattle.checker.specs.GraphReads.{ArcsRight, Reads}
 use Rattle.checker.specs.ArcTable.{numberFrom, arcNumber, ArcTable}
-use Rattle.checker.specs.Tallies.{arcItem, onward, goesOnTo, Room, Grown, Walked}
+use Rattle.checker.specs.Tallies.{arcItem, onward, goesOnTo, Room, Grown, Walked, PathWalked}
 use Rattle.checker.proofs.AnswerLaws.{part-cons, part-none}
 use Rattle.checker.proofs.AnswerReads.{part-length}
 use Rattle.checker.proofs.WalkLaws.{isAt, found-is}
@@ -165,7 +165,7 @@ grow l i w x c h = go (ℕ-discrete x i)
     go (no e) = rw (getD-set-other l i x (getD l i 0 + w) 0 e, ne-eqb x i e, zero-add)
 
 -- an item is among the items at most as often as there are items
-count-few : (i : Item) (js : List Item) → countOf i js ≤ length js
+pub count-few : (i : Item) (js : List Item) → countOf i js ≤ length js
 count-few i [] = le-refl 0
 count-few i (j ∷ js) = go (sameItem i j) (count-few i js)
   where
@@ -231,7 +231,7 @@ pub record WalkLeft (s t : List ℕ) (b lb from weight : ℕ) (vb vt ab at : Lis
   pub arcs : (k : ℕ) → k < arcCount s → getD at k 0 + weight * countOf (arcItem s k) (onward u (part t (b + j) (lb - j))) ≡ getD ab k 0 + weight * countOf (arcItem s k) (onward from (part t b lb))
   pub costs : pos cost +ℤ arcCosts whole (arcsOf s) (u ∷ part t (b + j) (lb - j)) ≡ arcCosts whole (arcsOf s) (from ∷ part t b lb)
 
-pub walk-begin : {s t : List ℕ} {b lb from weight : ℕ} {vb ab : List ℕ} → from < vertexCount s → Room s vb ab weight → WalkLeft s t b lb from weight vb vb ab ab from 0 0
+pub walk-begin : {s t : List ℕ} {b lb from weight : ℕ} {vb ab : List ℕ} → from < vertexCount s → Room s vb ab weight 129 → WalkLeft s t b lb from weight vb vb ab ab from 0 0
 walk-begin h room =
     record {
       within = omega (arith, room .vertices-long, room .arcs-long);
@@ -243,16 +243,16 @@ walk-begin h room =
 
 module _ {s t : List ℕ} {b lb from weight : ℕ} {vb vt ab at : List ℕ} {u cost j : ℕ} (inv : WalkLeft s t b lb from weight vb vt ab at u cost j) where
   -- a total has room for the weight: what was added so far is no more than what the whole path adds
-  module _ (fits : b + lb ≤ length t) (short : lb ≤ 63) (room : Room s vb ab weight) where
+  module _ (fits : b + lb ≤ length t) (short : lb ≤ 63) (room : Room s vb ab weight 129) where
     few : (i : Item) → weight * countOf i (onward from (part t b lb)) ≤ weight * 126
     few i =
         mul-le-mul-left weight
         (omega (arith, count-few i (onward from (part t b lb)), length-onward from (part t b lb), part-length t b lb fits))
 
-    pub vertex-room : (x : ℕ) → x < maxVertices → getD vt x 0 ≤ 254 * maxWeight
+    pub vertex-room : (x : ℕ) → x < maxVertices → getD vt x 0 ≤ 255 * maxWeight
     vertex-room x l = omega (arith, inv .vertices x l, few (vert x), room .vertices-low x l, room .low-weight)
 
-    pub arc-room : (k : ℕ) → k < arcCount s → getD at k 0 ≤ 254 * maxWeight
+    pub arc-room : (k : ℕ) → k < arcCount s → getD at k 0 ≤ 255 * maxWeight
     arc-room k l = omega (arith, inv .arcs k l, few (arcItem s k), room .arcs-low k l, room .low-weight)
 
   module _ (fits : b + lb ≤ length t) (more : j < lb) {v : ℕ} (read : v ≡ byte t (b + j)) where
@@ -319,3 +319,58 @@ module _ {s t : List ℕ} {b lb from weight : ℕ} {vb vt ab at : List ℕ} {u c
               ∙ inv .costs;
           low-cost = λ z. omega arith;
         }
+
+-- A whole path: its first vertex is counted, and from there on the walk goes on.
+trail-onward : (u : ℕ) (q : List ℕ) → trail (u ∷ q) ≡ vert u ∷ onward u q
+trail-onward u [] = refl
+trail-onward u (v ∷ q) = ap (λ (is : List Item). vert u ∷ arc u v ∷ is) (trail-onward v q)
+
+module _ (s t : List ℕ) (b lb weight : ℕ) (vb ab : List ℕ) (some : 1 ≤ lb) (fits : b + lb ≤ length t) (u : ℕ) (read : u ≡ byte t b) where
+  opened : part t b lb ≡ u ∷ part t (b + 1) (lb - 1)
+  opened = part-cons t b lb some (omega arith) ∙ rw read
+
+  pub path-outside : vertexCount s ≤ u → PathWalked s (part t b lb) weight vb vb ab ab false 0
+  path-outside h = walk-fails (rw (opened, le-ltb u (vertexCount s) h))
+
+  pub path-no-start : isStart (graphOf s) u ≡ false → PathWalked s (part t b lb) weight vb vb ab ab false 0
+  path-no-start e = walk-fails (rw (opened, e) (sym (and-none (allBelow (vertexCount s) (u ∷ part t (b + 1) (lb - 1))))))
+
+  module _ (inside : u < vertexCount s) (start : isStart (graphOf s) u ≡ true) (few : vertexCount s ≤ maxVertices) where
+    path-is : goesOnTo s u (part t (b + 1) (lb - 1)) ≡ (allBelow (vertexCount s) (u ∷ part t (b + 1) (lb - 1)) && isPath (graphOf s) (u ∷ part t (b + 1) (lb - 1)))
+    unfolding goesOnTo graphOf
+    path-is = rw (lt-ltb u (vertexCount s) inside, start)
+
+    pub path-room : Room s vb ab weight 128 → Room s (set vb u (getD vb u 0 + weight)) ab weight 129
+    path-room room =
+        record {
+          low-weight = room .low-weight;
+          vertices-long = simp length-set (room .vertices-long);
+          arcs-long = room .arcs-long;
+          vertices-low = λ x l. higher x l (ℕ-discrete x u);
+          arcs-low = λ k l. omega (arith, room .arcs-low k l);
+        }
+      where
+        higher : (x : ℕ) → x < maxVertices → Dec (x ≡ u) → getD (set vb u (getD vb u 0 + weight)) x 0 ≤ 129 * maxWeight
+        higher x l (yes e) = rw (e, getD-set-same vb u (getD vb u 0 + weight) 0 (omega (arith, room .vertices-long))) (omega (arith, room .vertices-low u (omega arith), room .low-weight))
+        higher x l (no e) = rw (getD-set-other vb u x (getD vb u 0 + weight) 0 e) (omega (arith, room .vertices-low x l))
+
+    module _ (va aa : List ℕ) (ok : Bool) (cost : ℕ) (long : length vb ≡ maxVertices) (on : Walked s (goesOnTo s u (part t (b + 1) (lb - 1))) (onward u (part t (b + 1) (lb - 1))) (u ∷ part t (b + 1) (lb - 1)) weight (set vb u (getD vb u 0 + weight)) va ab aa ok cost) where
+      path-grown : Grown s weight (onward u (part t (b + 1) (lb - 1))) (set vb u (getD vb u 0 + weight)) va ab aa → Grown s weight (vert u ∷ onward u (part t (b + 1) (lb - 1))) vb va ab aa
+      path-grown g =
+          record {
+            vertices-long = g .vertices-long;
+            arcs-long = g .arcs-long;
+            vertices = λ x l. g .vertices x l ∙ grow vb u weight x (countOf (vert x) (onward u (part t (b + 1) (lb - 1)))) (omega arith);
+            arcs = λ k l. g .arcs k l ∙ rw zero-add;
+          }
+
+      pub path-walked : PathWalked s (part t b lb) weight vb va ab aa ok cost
+      path-walked =
+          rw opened
+          (rw (trail-onward u (part t (b + 1) (lb - 1)), ← path-is)
+          (record {
+            is-right = on .is-right;
+            grown = λ z. path-grown (on .grown z);
+            costs = on .costs;
+            low-cost = on .low-cost;
+          }))

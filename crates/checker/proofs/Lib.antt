@@ -5,6 +5,7 @@ pub mod RecordLaws
 pub mod AnswerLaws
 pub mod AnswerReads
 pub mod AnswerWalk
+pub mod AnswerPaths
 pub mod ArcLaws
 -- Laws that the proofs of functions cite.
 pub mod TableLaws
@@ -25,3 +26,17 @@ pub mod LongestLaws
 pub mod JoinLaws
 pub mod JoinedRead
 pub mod PrepareLaws
+-- The theorems of the checker: what a verdict of 0 says, soundness, the marked rows, the answer form written and read back, completeness, the hand-out.
+pub mod Accepted
+pub mod Ascending
+pub mod Soundness
+pub mod Rows
+pub mod Encoding
+pub mod Inside
+pub mod MarksAgree
+pub mod Sorted
+pub mod PriceNumber
+pub mod GraphRange
+pub mod Completeness
+pub mod HandedOut
+pub mod Determined

@@ -12,3 +12,4 @@ pub mod ReadTable
 pub mod Certify
 pub mod Empty
 pub mod Tallies
+pub mod Encode

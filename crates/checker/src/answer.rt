@@ -18,10 +18,10 @@ ghost use Rattle.checker.specs.Bytes.{part};
 ghost use Rattle.checker.specs.GraphForm.{vertexCount, arcCount, flags, arcAt, arcCost};
 ghost use Rattle.checker.specs.GraphOf.{graphOf};
 ghost use Rattle.checker.specs.GraphFaults.{nothingRefused};
-ghost use Rattle.checker.specs.Limits.{maxReads, maxCost};
+ghost use Rattle.checker.specs.Limits.{maxReads, maxCost, maxWeight};
 ghost use Rattle.checker.specs.GraphReads.{Reads};
 ghost use Rattle.checker.specs.ArcTable.{ArcTable};
-ghost use Rattle.checker.specs.Tallies.{Marked, Room, Walked, goesOnTo, onward};
+ghost use Rattle.checker.specs.Tallies.{Marked, Room, Walked, PathWalked, goesOnTo, onward, pathHeadFault, PathHead, PathRead, NothingTallied, PathsRead};
 ghost use Rattle.checker.specs.AnswerForm.{signed32, inMarkAt};
 ghost use Rattle.checker.specs.AnswerFaults.{answerHeaderVerdict, markFault, marksVerdict, listBefore};
 
@@ -276,7 +276,7 @@ fn walk_on(
     arc_totals: &mut [usize; 256],
 ) -> Walk
     requires { ⌜ Reads (now s) × ArcTable (now s) (now first) × (from < vertexCount (now s)) ⌝ }
-    requires { ⌜ (lb ≤ 63) × (b + lb ≤ length (now t)) × Room (now s) (now «vertex_totals») (now «arc_totals») weight ⌝ }
+    requires { ⌜ (lb ≤ 63) × (b + lb ≤ length (now t)) × Room (now s) (now «vertex_totals») (now «arc_totals») weight 129 ⌝ }
     ensures { λ r. ⌜ Walked (now (s .entry)) (goesOnTo (now (s .entry)) from (part (now (t .entry)) b lb)) (onward from (part (now (t .entry)) b lb)) (from ∷ part (now (t .entry)) b lb) weight (now («vertex_totals» .entry)) (now («vertex_totals» .exit)) (now («arc_totals» .entry)) (now («arc_totals» .exit)) (r .ok) (r .cost) ⌝ }
 {
     let n = wide(s[5]);
@@ -300,4 +300,69 @@ fn walk_on(
     }
     let ok = is_end(s, u);
     Walk { ok, cost }
+}
+
+// Walks along the path of lb vertices at b, whose weight is added to the totals of the vertices and arcs on it.
+fn walk_path(
+    s: &[u8],
+    first: &[u16; 65],
+    t: &[u8],
+    b: usize,
+    lb: usize,
+    weight: usize,
+    vertex_totals: &mut [usize; 64],
+    arc_totals: &mut [usize; 256],
+) -> Walk
+    requires { ⌜ Reads (now s) × ArcTable (now s) (now first) × (1 ≤ lb) × (lb ≤ 64) ⌝ }
+    requires { ⌜ (b + lb ≤ length (now t)) × Room (now s) (now «vertex_totals») (now «arc_totals») weight 128 ⌝ }
+    ensures { λ r. ⌜ PathWalked (now (s .entry)) (part (now (t .entry)) b lb) weight (now («vertex_totals» .entry)) (now («vertex_totals» .exit)) (now («arc_totals» .entry)) (now («arc_totals» .exit)) (r .ok) (r .cost) ⌝ }
+{
+    let u = wide(t[b]);
+    if wide(s[5]) <= u {
+        return Walk { ok: false, cost: 0 };
+    }
+    if !is_start(s, u) {
+        return Walk { ok: false, cost: 0 };
+    }
+    vertex_totals[u] = vertex_totals[u] + weight;
+    walk_on(
+        s,
+        first,
+        t,
+        b + 1,
+        lb - 1,
+        u,
+        weight,
+        vertex_totals,
+        arc_totals,
+    )
+}
+
+// What is wrong with a path's record, so far as it can be told without the graph: 15, 16, 15, 17 or nothing.
+fn path_head_fault(t: &[u8], at: usize, copies: usize) -> usize
+    requires { ⌜ (at ≤ length (now t)) × (copies ≤ maxWeight) ⌝ }
+    ensures { λ r. ⌜ r ≡ pathHeadFault (now (t .entry)) at copies ⌝ }
+    ensures right { λ r. ⌜ (r ≡ 0 → PathHead (now (t .entry)) at copies) ⌝ }
+{
+    if t.len() - at < Answer::PATH {
+        return 15;
+    }
+    let len = wide(t[at + 4]);
+    if len == 0 {
+        return 16;
+    }
+    if Answer::MAX_PATH < len {
+        return 16;
+    }
+    if t.len() < at + Answer::PATH + len {
+        return 15;
+    }
+    let weight = be32(t, at);
+    if weight == 0 {
+        return 17;
+    }
+    if Answer::MAX_WEIGHT < copies + weight {
+        return 17;
+    }
+    0
 }
