@@ -8,8 +8,9 @@ use lib.ListN.{length, getD}
 use lib.IntN.{ℤ, natAbs}
 use Rattle.mathematics.specs.Price.{whole}
 use Rattle.mathematics.specs.Lists.{All}
-use Rattle.mathematics.specs.Cover.{vert}
+use Rattle.mathematics.specs.Cover.{vert, arc, sameItem, oneIf}
 use Rattle.mathematics.specs.Bound.{readsThrough, vertexSlack, arcSlack, vertexSlacksHold, arcSlackHolds}
+use Rattle.checker.specs.Limits.{maxVertices, maxArcs}
 use Rattle.checker.specs.GraphForm.{vertexCount, arcCount, vertexDemand, arcAt, arcDemand}
 use Rattle.checker.specs.GraphOf.{vertexOf, arcOf, graphOf}
 use Rattle.checker.specs.AnswerForm.{inMarkAt, outMarkAt, firstPathAt, marksOf}
@@ -73,3 +74,15 @@ pub record TableSized (rows : List (List ℕ)) (lens : List ℕ) : Type 0 where
   pub tall : length rows ≡ 16
   pub wide : All (λ r. length r ≡ 64) rows
   pub sized : length lens ≡ 16
+
+-- no count is above a number, so that counting on does not run over
+pub record CountsLow (s vertexReads arcReads : List ℕ) (most : ℕ) : Type 0 where
+  pub vertices-long : length vertexReads ≡ maxVertices
+  pub arcs-long : length arcReads ≡ maxArcs
+  pub vertices : (v : ℕ) → v < maxVertices → getD vertexReads v 0 ≤ most
+  pub arcs : (a : ℕ) → a < arcCount s → getD arcReads a 0 ≤ most
+
+-- the arc from u to v, where there is one, is counted once more
+pub record ArcPassed (s : List ℕ) (u v : ℕ) (before after : List ℕ) : Type 0 where
+  pub long : length after ≡ maxArcs
+  pub each : (a : ℕ) → a < arcCount s → getD after a 0 ≡ getD before a 0 + oneIf (sameItem (arcItem s a) (arc u v))

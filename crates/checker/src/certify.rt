@@ -1,4 +1,5 @@
 // Numbers 19, 21 and 22: demands and reads met, no slack below 0, and the bound.
+use crate::Found;
 use crate::Graph;
 use crate::Verdict;
 use crate::answer::Answer;
@@ -6,6 +7,7 @@ use crate::answer::mark_plus;
 use crate::bytes::be16;
 use crate::bytes::be32;
 use crate::bytes::wide;
+use crate::reader::find_arc;
 ghost use mathlib.Core.Path.{_≡_};
 ghost use Prim.Native.Nat.{ℕ, _+_, _*_, _<_, _≤_};
 ghost use lib.ListN.{length, getD, take};
@@ -15,11 +17,15 @@ ghost use Rattle.mathematics.specs.Bound.{vertexSlack, arcSlack};
 ghost use Rattle.checker.specs.GraphForm.{vertexCount, arcCount, readCount};
 ghost use Rattle.checker.specs.Bytes.{part};
 ghost use Rattle.checker.specs.GraphOf.{graphOf, arcOf};
-ghost use Rattle.checker.specs.ReadTable.{Leaves};
+ghost use Rattle.checker.specs.ReadTable.{rowAt, rowsOf, RowHolds, TableHolds, Leaves};
+ghost use Rattle.checker.specs.ArcTable.{ArcTable};
+ghost use Rattle.checker.specs.Limits.{maxVertices, maxArcs};
+ghost use Rattle.checker.specs.Tallies.{Grown};
+ghost use Rattle.mathematics.specs.Cover.{trail};
 ghost use Rattle.checker.specs.GraphReads.{Reads};
 ghost use Rattle.checker.specs.GraphFaults.{firstFault};
 ghost use Rattle.checker.specs.AnswerForm.{marksOf};
-ghost use Rattle.checker.specs.Certify.{TableSized, arcPlace, readPlace, vertexUnmet, arcUnmet, readUnmet, vertexSlackFault, arcSlackFault, MarksStand, NoneBelow, vertexPart, arcPart, sumFrom};
+ghost use Rattle.checker.specs.Certify.{TableSized, CountsLow, ArcPassed, Counted, arcPlace, readPlace, vertexUnmet, arcUnmet, readUnmet, vertexSlackFault, arcSlackFault, MarksStand, NoneBelow, vertexPart, arcPart, sumFrom};
 
 // The first vertex whose demand is above the weights of the paths through it.
 fn vertices_unmet(s: &[u8], totals: &[usize; 64]) -> Verdict
@@ -175,4 +181,63 @@ pub fn load_reads(s: &[u8], rows: &mut [[u8; 64]; 16], lens: &mut [usize; 16]) -
         i += 1;
     }
     count
+}
+
+// Counts the arc from u to v once more, where there is one.
+fn count_arc(s: &[u8], first: &[u16; 65], u: usize, v: usize, arc_reads: &mut [usize; 256])
+    requires { ⌜ ArcTable (now s) (now first) × (u < maxVertices) × (length (now «arc_reads») ≡ maxArcs) ⌝ }
+    requires { ⌜ ((a : ℕ) → a < arcCount (now s) → getD (now «arc_reads») a 0 ≤ 20000) ⌝ }
+    ensures { λ r. ⌜ ArcPassed (now (s .entry)) u v (now («arc_reads» .entry)) (now («arc_reads» .exit)) ⌝ }
+{
+    let found = find_arc(s, first, u, v);
+    let Found::At(k) = found else {
+        return;
+    };
+    arc_reads[k] = arc_reads[k] + 1;
+}
+
+// Counts one read of the table at each vertex and arc that it passes.
+fn count_row(
+    s: &[u8],
+    first: &[u16; 65],
+    rows: &[[u8; 64]; 16],
+    lens: &[usize; 16],
+    i: usize,
+    vertex_reads: &mut [usize; 64],
+    arc_reads: &mut [usize; 256],
+)
+    requires { ⌜ ArcTable (now s) (now first) × RowHolds (now rows) (now lens) i × CountsLow (now s) (now «vertex_reads») (now «arc_reads») 10000 ⌝ }
+    ensures { λ r. ⌜ Grown (now (s .entry)) 1 (trail (rowAt (now (rows .entry)) (now (lens .entry)) i)) (now («vertex_reads» .entry)) (now («vertex_reads» .exit)) (now («arc_reads» .entry)) (now («arc_reads» .exit)) ⌝ }
+{
+    let n = lens[i];
+    let mut u = wide(rows[i][0]);
+    vertex_reads[u] = vertex_reads[u] + 1;
+    let mut k = 1;
+    while k < n {
+        let v = wide(rows[i][k]);
+        vertex_reads[v] = vertex_reads[v] + 1;
+        count_arc(s, first, u, v, arc_reads);
+        u = v;
+        k += 1;
+    }
+}
+
+// How many of the table's reads pass each vertex and each arc, in counts that are 0 before.
+pub fn count_reads(
+    s: &[u8],
+    first: &[u16; 65],
+    rows: &[[u8; 64]; 16],
+    lens: &[usize; 16],
+    count: usize,
+    vertex_reads: &mut [usize; 64],
+    arc_reads: &mut [usize; 256],
+)
+    requires { ⌜ ArcTable (now s) (now first) × TableHolds (now rows) (now lens) count × CountsLow (now s) (now «vertex_reads») (now «arc_reads») 0 ⌝ }
+    ensures { λ r. ⌜ Counted (now (s .entry)) (rowsOf (now (rows .entry)) (now (lens .entry)) count) (now («vertex_reads» .exit)) (now («arc_reads» .exit)) ⌝ }
+{
+    let mut i = 0;
+    while i < count {
+        count_row(s, first, rows, lens, i, vertex_reads, arc_reads);
+        i += 1;
+    }
 }
