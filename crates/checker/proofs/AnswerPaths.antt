@@ -93,3 +93,51 @@ module _ (s t : List ℕ) (at : ℕ) (before : List ℕ) (copies : ℕ) where
 
       pub fault-none : listBefore before (pathVertices t at) ≡ true → 0 ≡ pathFault s t at before copies
       fault-none e = sym (fault-split ∙ simp (eq-eqb _ _ head, walks, e))
+
+-- what reading a record gives, where it is refused and where it is not
+module _ (s t : List ℕ) (at : ℕ) (before : List ℕ) (copies : ℕ) where
+  pub record-refused : {vb va ab aa : List ℕ} {mb ma : List Bool} {fault : ℕ} → fault ≡ pathFault s t at before copies → (fault ≡ 0 → ⊥) → PathRead s t at before copies vb va ab aa mb ma fault 0
+  record-refused e wrong = record { is-fault = e; tallied = λ z. absurd (wrong z) }
+
+  module _ (head : PathHead t at copies) (headed : pathHeadFault t at copies ≡ 0) {w l : ℕ} (weighs : w ≡ pathWeight t at) (counts : l ≡ pathLength t at) where
+    same-path : part t (at + 5) l ≡ pathVertices t at
+    same-path = rw counts
+
+    module _ {vb va ab aa : List ℕ} {ok : Bool} {cost : ℕ} (walked : PathWalked s (part t (at + 5) l) w vb va ab aa ok cost) where
+      pub record-no-path : {mb ma : List Bool} → ok ≡ false → PathRead s t at before copies vb va ab aa mb ma 16 0
+      record-no-path e =
+          record-refused (fault-walk s t at before copies headed (rw same-path at (sym (walked .is-right) ∙ e))) (λ z. omega arith)
+
+      module _ (is-path : ok ≡ true) where
+        walks : (allBelow (vertexCount s) (pathVertices t at) && isPath (graphOf s) (pathVertices t at)) ≡ true
+        walks = rw same-path at (sym (walked .is-right) ∙ is-path)
+
+        module _ {o : Bool} (ordered : o ≡ listBefore before (part t (at + 5) l)) where
+          pub record-no-order : {mb ma : List Bool} → o ≡ false → PathRead s t at before copies vb va ab aa mb ma 18 0
+          record-no-order e =
+              record-refused (fault-order s t at before copies headed walks (rw same-path at (sym ordered ∙ e))) (λ z. omega arith)
+
+          pub record-right : {mb ma : List Bool} → o ≡ true → Marked s (part t (at + 5) l) mb ma → PathRead s t at before copies vb va ab aa mb ma 0 cost
+          record-right e marked =
+              record {
+                is-fault = fault-none s t at before copies headed walks (rw same-path at (sym ordered ∙ e));
+                tallied =
+                    λ z.
+                    record {
+                      head = head;
+                      grown = rw (same-path, weighs) at (walked .grown is-path);
+                      marked = rw same-path at marked;
+                      costs = rw same-path at (walked .costs is-path);
+                      low-cost = walked .low-cost is-path;
+                    };
+              }
+
+pub room-for : {s vb ab : List ℕ} {w : ℕ} → Room s vb ab 0 128 → w ≤ maxWeight → Room s vb ab w 128
+room-for room h =
+    record {
+      low-weight = h;
+      vertices-long = room .vertices-long;
+      arcs-long = room .arcs-long;
+      vertices-low = room .vertices-low;
+      arcs-low = room .arcs-low;
+    }

@@ -366,3 +366,48 @@ fn path_head_fault(t: &[u8], at: usize, copies: usize) -> usize
     }
     0
 }
+
+// What reading one path's record gives: its fault, and where there is none the costs of the path's arcs.
+pub struct PathRecord {
+    pub fault: usize,
+    pub cost: usize,
+}
+
+// Reads the path's record at an offset: judges it, adds its weight to the totals and marks the reads that it holds.
+// The path before it has lp vertices at p. Where there is a fault the tallies are of no use any more.
+fn read_path(
+    s: &[u8],
+    first: &[u16; 65],
+    t: &[u8],
+    at: usize,
+    p: usize,
+    lp: usize,
+    copies: usize,
+    vertex_totals: &mut [usize; 64],
+    arc_totals: &mut [usize; 256],
+    met: &mut [bool; 16],
+) -> PathRecord
+    requires { ⌜ Reads (now s) × ArcTable (now s) (now first) × (at ≤ length (now t)) × (p + lp ≤ length (now t)) × (copies ≤ maxWeight) ⌝ }
+    requires { ⌜ Room (now s) (now «vertex_totals») (now «arc_totals») 0 128 × (length (now met) ≡ maxReads) ⌝ }
+    ensures { λ r. ⌜ PathRead (now (s .entry)) (now (t .entry)) at (part (now (t .entry)) p lp) copies (now («vertex_totals» .entry)) (now («vertex_totals» .exit)) (now («arc_totals» .entry)) (now («arc_totals» .exit)) (now (met .entry)) (now (met .exit)) (r .fault) (r .cost) ⌝ }
+{
+    let fault = path_head_fault(t, at, copies);
+    if fault != 0 {
+        return PathRecord { fault, cost: 0 };
+    }
+    let weight = be32(t, at);
+    let lb = wide(t[at + 4]);
+    let b = at + Answer::PATH;
+    let walk = walk_path(s, first, t, b, lb, weight, vertex_totals, arc_totals);
+    if !walk.ok {
+        return PathRecord { fault: 16, cost: 0 };
+    }
+    if !comes_before(t, p, lp, b, lb) {
+        return PathRecord { fault: 18, cost: 0 };
+    }
+    mark_reads(s, t, b, lb, met);
+    PathRecord {
+        fault: 0,
+        cost: walk.cost,
+    }
+}
