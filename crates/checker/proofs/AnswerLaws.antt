@@ -1,19 +1,18 @@
 -- What reading an answer form gives: a law for each way through the functions that test its header, marks and paths.
-use Prim.Native.Nat.{ℕ, zero, suc, pred, _+_, _-_, _*_, _<_, _≤_}
+use Prim.Native.Nat.{ℕ, zero, suc, _+_, _-_, _*_, _<_, _≤_}
 use native.Mathlib.Nat.{add-zero, sub-zero}
-use native.Mathlib.Numerals.{add-one, sub-one}
+use native.Mathlib.Numerals.{add-one}
 use native.Mathlib.Decide.{decLt}
 use native.Mathlib.Omega.{arith}
-use mathlib.Core.Path.{_≡_, refl, sym, ap, _∙_}
+use mathlib.Core.Path.{_≡_, refl, sym, _∙_}
 use mathlib.Core.List.{List, [], _∷_}
-use mathlib.Core.Bool.{Bool, true, false, cond, not, _&&_, _||_}
-use lib.Dec.{T, ltb, leb, eqb, leb·zero, leb·suc-zero, leb·suc-suc}
-use lib.ListN.{length, getD, take, drop}
+use mathlib.Core.Bool.{true, false, _&&_, _||_}
+use lib.Dec.{ltb, leb, eqb, leb·zero, leb·suc-zero, leb·suc-suc}
+use lib.ListN.{length}
 use lib.Seq.{drop-cons}
-use lib.IntN.{ℤ, pos, negsuc, negℤ, subℕ}
+use lib.IntN.{pos, negℤ, subℕ}
 use lib.Signed.{leZ}
 use borrow.Author.Tests.{lt-ltb, le-ltb, le-leb, lt-leb, eq-eqb, ne-eqb}
-use Rattle.checker.specs.declared.Verdict.{Verdict}
 use Rattle.checker.specs.Bytes.{byte, be32, part}
 use Rattle.checker.specs.Limits.{maxPaths, markLimit}
 use Rattle.checker.specs.GraphForm.{vertexCount}

@@ -1,31 +1,28 @@
 -- Walking along a path of an answer: which arc is found, what one step adds to the totals, and the laws of the loop that walks.
 use Prim.Native.Nat.{ℕ, zero, suc, _+_, _-_, _*_, _/_, _%_, _<_, _≤_}
-use native.Mathlib.Nat.{le-refl, zero-add, add-zero, sub-zero, add-suc, mul-one, mul-zero, mul-add, mul-le-mul-left}
-use native.Mathlib.Numerals.{add-one}
+use native.Mathlib.Nat.{le-refl, zero-add, add-zero, sub-zero, mul-one, mul-zero, mul-add, mul-le-mul-left}
 use native.Mathlib.Decide.{decLt, ℕ-discrete}
 use native.Mathlib.Omega.{arith}
 use mathlib.Core.Path.{_≡_, refl, sym, ap, subst, _∙_}
 use mathlib.Core.List.{List, [], _∷_}
-use mathlib.Core.Bool.{Bool, true, false, cond, _&&_, _||_}
+use mathlib.Core.Bool.{Bool, true, false, cond, _&&_}
 use mathlib.Core.Logic.{⊎-elim}
-use lib.Dec.{ltb, eqb}
+use lib.Dec.{eqb}
 use lib.ListN.{length, getD, set, length-set}
 use lib.Seq.{getD-set-same, getD-set-other}
 use lib.IntN.{ℤ, pos, _+ℤ_, +ℤ-assoc, +ℤ-idl, +ℤ-idr}
 use borrow.Author.Tests.{lt-ltb, le-ltb, eq-eqb, ne-eqb, eqb-true}
 use Rattle.mathematics.specs.Price.{whole}
-use Rattle.mathematics.specs.Lists.{lastOf}
-use Rattle.mathematics.specs.Graph.{Vertex, noVertex, Arc, joins, hasArc, linked, isStart, isEnd, isPath}
+use Rattle.mathematics.specs.Graph.{Vertex, noVertex, Arc, joins, hasArc, isStart, isEnd, isPath}
 use Rattle.mathematics.specs.Cover.{Item, vert, arc, sameItem, oneIf, countOf, trail, costOf, arcCosts}
-use Rattle.checker.specs.declared.Found.{Found}
 use Rattle.checker.specs.declared.Found.the-variants.{At, Missing}
 use Rattle.checker.specs.Bytes.{byte, be32, part, tabulate}
-use Rattle.checker.specs.Limits.{maxVertices, maxArcs, maxCost, maxWeight, maxPathLength}
+use Rattle.checker.specs.Limits.{maxVertices, maxArcs, maxCost, maxWeight}
 use Rattle.checker.specs.GraphForm.{vertexCount, arcCount, flags, arcAt, arcTail, arcHead, arcCost}
 use Rattle.checker.specs.GraphOf.{graphOf, vertexOf, arcOf, arcsOf}
 use Rattle.checker.specs.GraphFaults.{allBelow}
 use Rattle.checker.specs.GraphReads.{ArcsRight, Reads}
-use Rattle.checker.specs.ArcTable.{numberFrom, arcNumber, ArcTable}
+use Rattle.checker.specs.ArcTable.{numberFrom, arcNumber}
 use Rattle.checker.specs.Tallies.{arcItem, onward, goesOnTo, Room, Grown, Walked, PathWalked}
 use Rattle.checker.proofs.AnswerLaws.{part-cons, part-none}
 use Rattle.checker.proofs.AnswerReads.{part-length}
@@ -165,7 +162,7 @@ grow l i w x c h = go (ℕ-discrete x i)
     go (no e) = rw (getD-set-other l i x (getD l i 0 + w) 0 e, ne-eqb x i e, zero-add)
 
 -- an item is among the items at most as often as there are items
-pub count-few : (i : Item) (js : List Item) → countOf i js ≤ length js
+count-few : (i : Item) (js : List Item) → countOf i js ≤ length js
 count-few i [] = le-refl 0
 count-few i (j ∷ js) = go (sameItem i j) (count-few i js)
   where
@@ -324,6 +321,13 @@ module _ {s t : List ℕ} {b lb from weight : ℕ} {vb vt ab at : List ℕ} {u c
 trail-onward : (u : ℕ) (q : List ℕ) → trail (u ∷ q) ≡ vert u ∷ onward u q
 trail-onward u [] = refl
 trail-onward u (v ∷ q) = ap (λ (is : List Item). vert u ∷ arc u v ∷ is) (trail-onward v q)
+
+-- a path passes at most twice as many vertices and arcs as it has vertices
+pub through-few : (i : Item) (p : List ℕ) → countOf i (trail p) ≤ 2 * length p
+through-few i [] = le-refl 0
+through-few i (u ∷ q) =
+    let e : length (trail (u ∷ q)) ≡ suc (length (onward u q)) = ap length (trail-onward u q) in
+    omega (arith, e, count-few i (trail (u ∷ q)), length-onward u q)
 
 module _ (s t : List ℕ) (b lb weight : ℕ) (vb ab : List ℕ) (some : 1 ≤ lb) (fits : b + lb ≤ length t) (u : ℕ) (read : u ≡ byte t b) where
   opened : part t b lb ≡ u ∷ part t (b + 1) (lb - 1)

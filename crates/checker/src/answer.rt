@@ -22,7 +22,7 @@ ghost use Rattle.checker.specs.Limits.{maxReads, maxCost, maxWeight};
 ghost use Rattle.checker.specs.GraphReads.{Reads};
 ghost use Rattle.checker.specs.ArcTable.{ArcTable};
 ghost use Rattle.checker.specs.Tallies.{Marked, Room, Walked, PathWalked, goesOnTo, onward, pathHeadFault, PathHead, PathRead, NothingTallied, PathsRead};
-ghost use Rattle.checker.specs.AnswerForm.{signed32, inMarkAt};
+ghost use Rattle.checker.specs.AnswerForm.{signed32, inMarkAt, firstPathAt};
 ghost use Rattle.checker.specs.AnswerFaults.{answerHeaderVerdict, markFault, marksVerdict, listBefore};
 
 // The header of an answer form.
@@ -409,5 +409,75 @@ fn read_path(
     PathRecord {
         fault: 0,
         cost: walk.cost,
+    }
+}
+
+// What reading all paths gives: the verdict, and where nothing is refused the paths' price.
+pub struct Tally {
+    pub number: usize,
+    pub place: usize,
+    pub price: usize,
+}
+
+// Reads the path records one after another. The totals, the reads met and the price are those of all paths where nothing is refused.
+pub fn read_paths(
+    s: &[u8],
+    first: &[u16; 65],
+    t: &[u8],
+    vertex_totals: &mut [usize; 64],
+    arc_totals: &mut [usize; 256],
+    met: &mut [bool; 16],
+) -> Tally
+    requires { ⌜ Reads (now s) × ArcTable (now s) (now first) × (firstPathAt (vertexCount (now s)) ≤ length (now t)) ⌝ }
+    requires { ⌜ NothingTallied (now «vertex_totals») (now «arc_totals») (now met) ⌝ }
+    ensures { λ r. ⌜ PathsRead (now (s .entry)) (now (t .entry)) (now («vertex_totals» .exit)) (now («arc_totals» .exit)) (now (met .exit)) (r .number) (r .place) (r .price) ⌝ }
+{
+    let opening = be32(s, 9);
+    let mut left = be16(t, 5);
+    let mut at = Answer::HEADER + 8 * wide(s[5]);
+    let mut p = 0;
+    let mut lp = 0;
+    let mut copies = 0;
+    let mut price = 0;
+    while 0 < left {
+        let path = read_path(
+            s,
+            first,
+            t,
+            at,
+            p,
+            lp,
+            copies,
+            vertex_totals,
+            arc_totals,
+            met,
+        );
+        let fault = path.fault;
+        if fault != 0 {
+            return Tally {
+                number: fault,
+                place: at,
+                price: 0,
+            };
+        }
+        let weight = be32(t, at);
+        lp = wide(t[at + 4]);
+        p = at + Answer::PATH;
+        price += weight * (opening + path.cost);
+        copies += weight;
+        at = p + lp;
+        left -= 1;
+    }
+    if at < t.len() {
+        return Tally {
+            number: 15,
+            place: at,
+            price: 0,
+        };
+    }
+    Tally {
+        number: 0,
+        place: 0,
+        price,
     }
 }

@@ -4,68 +4,49 @@ use native.Mathlib.Omega.{arith}
 use borrow.Author.Needs.{needs}
 use Rattle.checker.proofs.answer.path_head_fault.Statement.{statement}
 use Rattle.checker.proofs.answer.path_head_fault.Tie as tie
-use Rattle.checker.proofs.answer.path_head_fault.Reads as reads
-use Rattle.checker.proofs.answer.path_head_fault.Lts as lts
-use Rattle.checker.proofs.bytes.be32.Reads as be32-reads
-use Rattle.checker.proofs.bytes.wide.Reads as wide-reads
 
--- src/answer.rt:347:8
 sub-if1 : tie.Need-sub-if1
 sub-if1 c = search needs
 
--- src/answer.rt:348:9
 returns : tie.Need-returns
 returns c = (head-short _ _ _ (search needs), λ z. absurd (omega arith))
 
--- src/answer.rt:350:22
 add-wide : tie.Need-add-wide
 add-wide c = search needs
 
--- src/answer.rt:350:20
 shared-slice-read-wide : tie.Need-shared-slice-read-wide
 shared-slice-read-wide c = search needs
 
--- src/answer.rt:350:9
 wide-requires : tie.Need-wide-requires
 wide-requires c κs = search needs
 
--- src/answer.rt:352:9
 returns-2 : tie.Need-returns-2
 returns-2 c = (head-empty _ _ _ (search needs) (search needs), λ z. absurd (omega arith))
 
--- src/answer.rt:355:9
 returns-3 : tie.Need-returns-3
 returns-3 c = (head-many _ _ _ (search needs) (search needs) (search needs), λ z. absurd (omega arith))
 
--- src/answer.rt:357:18
 add-if4 : tie.Need-add-if4
 add-if4 c = search needs
 
--- src/answer.rt:357:18
 add-if4-2 : tie.Need-add-if4-2
 add-if4-2 c = search needs
 
--- src/answer.rt:358:9
 returns-4 : tie.Need-returns-4
 returns-4 c = (head-past _ _ _ (search needs) (search needs) (search needs) (search needs), λ z. absurd (omega arith))
 
--- src/answer.rt:360:9
 be32-requires : tie.Need-be32-requires
 be32-requires c κs = search needs
 
--- src/answer.rt:362:9
 returns-5 : tie.Need-returns-5
 returns-5 c = (head-light _ _ _ (search needs) (search needs) (search needs) (search needs) (search needs), λ z. absurd (omega arith))
 
--- src/answer.rt:364:29
 add-if6 : tie.Need-add-if6
 add-if6 c = search needs
 
--- src/answer.rt:365:9
 returns-6 : tie.Need-returns-6
 returns-6 c = (head-heavy _ _ _ (search needs) (search needs) (search needs) (search needs) (search needs) (search needs), λ z. absurd (omega arith))
 
--- src/answer.rt:342:1
 returns-7 : tie.Need-returns-7
 returns-7 c = (head-right _ _ _ (search needs) (search needs) (search needs) (search needs) (search needs) (search needs), λ z. record { whole = search needs; some = search needs; short = search needs; weighs = search needs; few-copies = search needs })
 

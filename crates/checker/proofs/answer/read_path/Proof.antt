@@ -6,64 +6,43 @@ use native.Mathlib.Omega.{arith}
 use borrow.Author.Needs.{needs}
 use Rattle.checker.proofs.answer.read_path.Statement.{statement}
 use Rattle.checker.proofs.answer.read_path.Tie as tie
-use Rattle.checker.proofs.answer.read_path.Reads as reads
-use Rattle.checker.proofs.answer.read_path.Lts as lts
-use Rattle.checker.proofs.answer.comes_before.Reads as comes-before-reads
-use Rattle.checker.proofs.answer.mark_reads.Reads as mark-reads-reads
-use Rattle.checker.proofs.answer.path_head_fault.Reads as path-head-fault-reads
-use Rattle.checker.proofs.answer.walk_path.Reads as walk-path-reads
-use Rattle.checker.proofs.bytes.be32.Reads as be32-reads
-use Rattle.checker.proofs.bytes.wide.Reads as wide-reads
 
--- src/answer.rt:394:9
 path-head-fault-requires : tie.Need-path-head-fault-requires
 path-head-fault-requires c κs = search needs
 
--- src/answer.rt:396:9
 returns : tie.Need-returns
 returns c = record-refused _ _ _ _ _ (fault-head _ _ _ _ _ _ (c .before .path-head-fault .ensures .0) (c .if1 .taken)) (c .if1 .taken)
 
--- src/answer.rt:398:9
 be32-requires : tie.Need-be32-requires
 be32-requires c κs = omega (arith, (c .before .path-head-fault .ensures .1 (c .if1 .left)))
 
--- src/answer.rt:399:21
 add-wide : tie.Need-add-wide
 add-wide c = search needs
 
--- src/answer.rt:399:19
 shared-slice-read-wide : tie.Need-shared-slice-read-wide
 shared-slice-read-wide c = omega (arith, (c .before .before .before .path-head-fault .ensures .1 (c .before .before .if1 .left)))
 
--- src/answer.rt:399:9
 wide-requires : tie.Need-wide-requires
 wide-requires c κs = search needs
 
--- src/answer.rt:400:13
 add-b : tie.Need-add-b
 add-b c = search needs
 
--- src/answer.rt:401:9
 walk-path-requires : tie.Need-walk-path-requires
 walk-path-requires c κs = ((c .before .before .before .before .before .before .before .before .before .pre .0 .0, c .before .before .before .before .before .before .before .before .before .pre .0 .1, omega (arith, (c .before .before .before .before .before .before .path-head-fault .ensures .1 (c .before .before .before .before .before .if1 .left)), (c .before .before .wide .ensures .0)), omega (arith, (c .before .before .before .before .before .before .path-head-fault .ensures .1 (c .before .before .before .before .before .if1 .left)), (c .before .before .wide .ensures .0))), (omega (arith, (c .before .before .before .before .before .before .path-head-fault .ensures .1 (c .before .before .before .before .before .if1 .left)), (c .before .before .wide .ensures .0)), room-for (c .before .before .before .before .before .before .before .before .before .pre .1 .0) (omega (arith, (c .before .before .before .before .before .before .path-head-fault .ensures .1 (c .before .before .before .before .before .if1 .left)), (c .before .before .before .before .be32 .ensures .0)))))
 
--- src/answer.rt:403:9
 returns-2 : tie.Need-returns-2
 returns-2 c = record-no-path _ _ _ _ _ (c .before .before .before .before .before .before .before .before .before .path-head-fault .ensures .1 (c .before .before .before .before .before .before .before .before .if1 .left)) (sym (c .before .before .before .before .before .before .before .before .before .path-head-fault .ensures .0) ∙ c .before .before .before .before .before .before .before .before .if1 .left) (c .before .before .before .before .before .before .before .be32 .ensures .0) (c .before .before .before .before .before .wide .ensures .0) (c .before .before .walk-path .ensures) (not-true _ (c .if2 .taken))
 
--- src/answer.rt:408:9
 comes-before-requires : tie.Need-comes-before-requires
 comes-before-requires c κs = (c .before .before .before .before .before .before .before .before .before .before .before .before .pre .0 .3, omega (arith, (c .before .before .before .before .before .before .before .before .before .path-head-fault .ensures .1 (c .before .before .before .before .before .before .before .before .if1 .left)), (c .before .before .before .before .before .wide .ensures .0)))
 
--- src/answer.rt:409:9
 returns-3 : tie.Need-returns-3
 returns-3 c = record-no-order _ _ _ _ _ (c .before .before .before .before .before .before .before .before .before .before .before .path-head-fault .ensures .1 (c .before .before .before .before .before .before .before .before .before .before .if1 .left)) (sym (c .before .before .before .before .before .before .before .before .before .before .before .path-head-fault .ensures .0) ∙ c .before .before .before .before .before .before .before .before .before .before .if1 .left) (c .before .before .before .before .before .before .before .before .before .be32 .ensures .0) (c .before .before .before .before .before .before .before .wide .ensures .0) (c .before .before .before .before .walk-path .ensures) (not-false _ (c .before .before .if2 .left)) (c .before .comes-before .ensures) (not-true _ (c .if3 .taken))
 
--- src/answer.rt:414:5
 mark-reads-requires : tie.Need-mark-reads-requires
 mark-reads-requires c κs = (c .before .before .before .before .before .before .before .before .before .before .before .before .before .before .before .pre .0 .0, omega (arith, (c .before .before .before .before .before .before .before .before .before .before .before .before .path-head-fault .ensures .1 (c .before .before .before .before .before .before .before .before .before .before .before .if1 .left)), (c .before .before .before .before .before .before .before .before .wide .ensures .0)), c .before .before .before .before .before .before .before .before .before .before .before .before .before .before .before .pre .1 .1)
 
--- src/answer.rt:378:1
 returns-4 : tie.Need-returns-4
 returns-4 c = record-right _ _ _ _ _ (c .before .before .before .before .before .before .before .before .before .before .before .before .before .path-head-fault .ensures .1 (c .before .before .before .before .before .before .before .before .before .before .before .before .if1 .left)) (sym (c .before .before .before .before .before .before .before .before .before .before .before .before .before .path-head-fault .ensures .0) ∙ c .before .before .before .before .before .before .before .before .before .before .before .before .if1 .left) (c .before .before .before .before .before .before .before .before .before .before .before .be32 .ensures .0) (c .before .before .before .before .before .before .before .before .before .wide .ensures .0) (c .before .before .before .before .before .before .walk-path .ensures) (not-false _ (c .before .before .before .before .if2 .left)) (c .before .before .before .comes-before .ensures) (not-false _ (c .before .before .if3 .left)) (c .mark-reads .ensures)
 

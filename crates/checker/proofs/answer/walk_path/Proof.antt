@@ -6,73 +6,52 @@ use Rattle.checker.proofs.AnswerWalk.{path-outside, path-no-start, path
 use borrow.Author.Needs.{needs}
 use Rattle.checker.proofs.answer.walk_path.Statement.{statement}
 use Rattle.checker.proofs.answer.walk_path.Tie as tie
-use Rattle.checker.proofs.answer.walk_path.Reads as reads
-use Rattle.checker.proofs.answer.walk_path.Lts as lts
-use Rattle.checker.proofs.answer.is_start.Reads as is-start-reads
-use Rattle.checker.proofs.answer.walk_on.Reads as walk-on-reads
-use Rattle.checker.proofs.bytes.wide.Reads as wide-reads
 
--- src/answer.rt:320:18
 shared-slice-read-wide : tie.Need-shared-slice-read-wide
 shared-slice-read-wide c = search needs
 
--- src/answer.rt:320:9
 wide-requires : tie.Need-wide-requires
 wide-requires c κs = search needs
 
--- src/answer.rt:321:13
 shared-slice-read-wide-2 : tie.Need-shared-slice-read-wide-2
 shared-slice-read-wide-2 c = search needs
 
--- src/answer.rt:321:8
 wide-requires-2 : tie.Need-wide-requires-2
 wide-requires-2 c κs = search needs
 
--- src/answer.rt:322:9
 returns : tie.Need-returns
 returns c = path-outside _ _ _ _ _ _ _ (c .before .before .before .before .before .before .before .pre .0 .2) (c .before .before .before .before .before .before .before .pre .1 .0) _ (c .before .before .before .wide .ensures .0) (search needs)
 
--- src/answer.rt:324:9
 is-start-requires : tie.Need-is-start-requires
 is-start-requires c κs = search needs
 
--- src/answer.rt:325:9
 returns-2 : tie.Need-returns-2
 returns-2 c = path-no-start _ _ _ _ _ _ _ (c .before .before .before .before .before .before .before .before .before .pre .0 .2) (c .before .before .before .before .before .before .before .before .before .pre .1 .0) _ (c .before .before .before .before .before .wide .ensures .0) (sym (c .before .is-start .ensures) ∙ not-true _ (c .if2 .taken))
 
--- src/answer.rt:327:24
 mul-vertex-totals : tie.Need-mul-vertex-totals
 mul-vertex-totals c = search needs
 
--- src/answer.rt:327:24
 element-copy-out-vertex-totals : tie.Need-element-copy-out-vertex-totals
 element-copy-out-vertex-totals c = search needs
 
--- src/answer.rt:327:24
 add-vertex-totals : tie.Need-add-vertex-totals
 add-vertex-totals c = omega (arith, c .before .before .before .before .before .before .before .before .before .before .pre .1 .1 .vertices-low (c .before .before .before .before .before .before .wide .result) (omega (arith, (c .before .before .before .before .before .before .before .before .before .before .pre .0 .0 .arcs .header .few-vertices))), c .before .before .before .before .before .before .before .before .before .before .pre .1 .1 .low-weight)
 
--- src/answer.rt:327:5
 mul-vertex-totals-2 : tie.Need-mul-vertex-totals-2
 mul-vertex-totals-2 c = search needs
 
--- src/answer.rt:327:5
 element-write-vertex-totals : tie.Need-element-write-vertex-totals
 element-write-vertex-totals c = search needs
 
--- src/answer.rt:328:26
 add-walk-on : tie.Need-add-walk-on
 add-walk-on c = search needs
 
--- src/answer.rt:328:33
 sub-walk-on : tie.Need-sub-walk-on
 sub-walk-on c = search needs
 
--- src/answer.rt:328:5
 walk-on-requires : tie.Need-walk-on-requires
 walk-on-requires c κs = ((c .before .before .before .before .before .before .before .before .before .before .before .before .pre .0 .0, c .before .before .before .before .before .before .before .before .before .before .before .before .pre .0 .1, search needs), (search needs, search needs, path-room _ (c .before .before .before .before .before .before .before .before .before .before .before .before .args .t .now) (c .before .before .before .before .before .before .before .before .before .before .before .before .args .b) (c .before .before .before .before .before .before .before .before .before .before .before .before .args .lb) _ _ _ (c .before .before .before .before .before .before .before .before .before .before .before .before .pre .0 .2) (c .before .before .before .before .before .before .before .before .before .before .before .before .pre .1 .0) _ (c .before .before .before .before .before .before .before .before .wide .ensures .0) (search needs) (sym (c .before .before .before .before .is-start .ensures) ∙ not-false _ (c .before .before .before .if2 .left)) (c .before .before .before .before .before .before .before .before .before .before .before .before .pre .0 .0 .arcs .header .few-vertices) (c .before .before .before .before .before .before .before .before .before .before .before .before .pre .1 .1)))
 
--- src/answer.rt:306:1
 returns-3 : tie.Need-returns-3
 returns-3 c = path-walked _ _ _ _ _ _ _ (c .before .before .before .before .before .before .before .before .before .before .before .before .before .pre .0 .2) (c .before .before .before .before .before .before .before .before .before .before .before .before .before .pre .1 .0) _ (c .before .before .before .before .before .before .before .before .before .wide .ensures .0) (search needs) (sym (c .before .before .before .before .before .is-start .ensures) ∙ not-false _ (c .before .before .before .before .if2 .left)) (c .before .before .before .before .before .before .before .before .before .before .before .before .before .pre .0 .0 .arcs .header .few-vertices) _ _ _ _ (c .before .before .before .before .before .before .before .before .before .before .before .before .before .pre .1 .1 .vertices-long) (c .walk-on .ensures)
 
