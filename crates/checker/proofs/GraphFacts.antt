@@ -2,10 +2,10 @@
 use Prim.Native.Nat.{ℕ, zero, suc, _+_, _-_, _<_, _≤_, zero-le}
 use native.Mathlib.Omega.{arith}
 use mathlib.Core.Path.{_≡_, refl, sym, ap, subst, _∙_}
-use mathlib.Core.List.{List, [], _∷_, map}
-use mathlib.Core.Logic.{_≢_, _⊎_, inl, inr}
+use mathlib.Core.List.{List, map}
+use mathlib.Core.Logic.{_≢_, inl, inr}
 use lib.Dec.{T, le→leb}
-use lib.IntN.{ℤ, pos}
+use lib.IntN.{ℤ}
 use lib.ListN.{length, length-take, length-drop}
 use Rattle.mathematics.specs.Lists.{All, Distinct}
 use Rattle.mathematics.specs.Graph.{Arc, linked, Rises, WellFormed}
@@ -14,9 +14,9 @@ use Rattle.mathematics.specs.Range.{CostsHold}
 use Rattle.mathematics.proofs.Basics.{all-map}
 use Rattle.checker.specs.Bytes.{part, tabulate}
 use Rattle.checker.specs.Limits.{maxReadLength}
-use Rattle.checker.specs.GraphForm.{vertexCount, arcCount, readCount, openingPrice, vertexDemand, arcAt, arcTail, arcHead, arcCost, arcDemand, firstReadAt, readLength, readVertices, readEnd}
+use Rattle.checker.specs.GraphForm.{vertexCount, arcCount, readCount, openingPrice, arcAt, arcTail, arcHead, arcCost, firstReadAt, readLength, readVertices, readEnd}
 use Rattle.checker.specs.GraphOf.{vertexOf, arcOf, arcsOf, readsFrom, graphOf}
-use Rattle.checker.specs.GraphReads.{ArcRight, Before, ReadRight, ReadsRight, ArcsRight, Reads, AtMost, Within}
+use Rattle.checker.specs.GraphReads.{Before, ReadRight, ReadsRight, ArcsRight, Reads, Within}
 
 -- a list made from numbers: its length, and what holds of each of its parts
 module _ {A : Type 0} (g : ℕ → A) where

@@ -1,26 +1,24 @@
 -- Theorems on a graph form that reads: a verdict of 0 says exactly that document 01's conditions hold; the graph it stands for is well formed, its
 -- costs hold and its sizes are within "Numbers allowed"; any two answers that the reader's promise allows are equal.
-use Prim.Native.Nat.{ℕ, zero, suc, _+_, _-_, _<_, _≤_, zero-le}
+use Prim.Native.Nat.{ℕ, zero, suc, _+_, _-_, _<_, _≤_}
 use native.Mathlib.Omega.{arith}
 use mathlib.Core.Path.{_≡_, refl, sym, ap, ap₂, _∙_}
-use mathlib.Core.List.{List, [], _∷_, map}
+use mathlib.Core.List.{List}
 use mathlib.Core.Bool.{Bool, true, false, cond, not, _&&_, _||_}
-use mathlib.Core.Logic.{_⊎_, inl, inr, ⊎-elim, _↔_}
+use mathlib.Core.Logic.{_↔_}
 use lib.Dec.{ltb, leb, eqb, lit≤}
 use lib.ListN.{length}
-use borrow.Author.Tests.{ltb-false, lt-ltb, le-ltb, eq-eqb, ne-eqb, eqb-true, eqb-false}
-use Rattle.mathematics.specs.Lists.{All, Distinct}
-use Rattle.mathematics.specs.Graph.{linked}
+use borrow.Author.Tests.{ltb-false, le-ltb, eq-eqb, eqb-true, eqb-false}
 use Rattle.checker.specs.declared.Verdict.{Verdict}
 use Rattle.checker.specs.Limits.{maxVertices, maxArcs, maxReads, maxOpening, maxCost, maxDemand, minReadLength, maxReadLength}
 use Rattle.checker.specs.GraphForm.{headerLength, lengthWord, version, vertexCount, arcCount, readCount, openingPrice, vertexLength, vertexAt, flags, vertexDemand, arcLength, arcAt, arcTail, arcHead, arcCost, arcDemand, firstReadAt, readLength, readVertices, readEnd}
-use Rattle.checker.specs.GraphOf.{arcsOf, graphOf}
-use Rattle.checker.specs.GraphFaults.{refusal, nothingRefused, then, headerVerdict, firstFault, vertexFault, follows, ascends, arcFault, verticesVerdict, arcsVerdict, allBelow, walks, readFault, readsVerdict, graphVerdict}
-use Rattle.checker.specs.GraphReads.{HeaderRight, VertexRight, ArcRight, Before, ReadRight, ReadsRight, ArcsRight, Reads}
+use Rattle.checker.specs.GraphOf.{arcsOf}
+use Rattle.checker.specs.GraphFaults.{refusal, nothingRefused, then, headerVerdict, firstFault, vertexFault, ascends, arcFault, verticesVerdict, arcsVerdict, walks, readFault, readsVerdict, graphVerdict}
+use Rattle.checker.specs.GraphReads.{VertexRight, ReadRight, ReadsRight, ArcsRight, Reads}
 use Rattle.checker.proofs.HeaderLaws.{header-right}
 use Rattle.checker.proofs.RecordLaws.{vertex-right, arc-last}
 use Rattle.checker.proofs.ReadLaws.{read-right}
-use Rattle.checker.proofs.RightLaws.{header-holds, vertex-holds, arc-holds, arcs-hold, read-holds, next-follows, before-follows, all-below, each-right, all-right}
+use Rattle.checker.proofs.RightLaws.{header-holds, vertex-holds, arcs-hold, read-holds, next-follows, before-follows, all-below, each-right, all-right}
 use Rattle.checker.proofs.ThenLaws.{then-passed}
 use Rattle.mathematics.proofs.Basics.{is-true}
 

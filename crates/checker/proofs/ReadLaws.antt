@@ -1,16 +1,15 @@
 -- The reads of a graph form: what is wrong with one, a law for each way through `read_fault`, and a walk over them, which ends with the bytes that remain.
-use Prim.Native.Nat.{ℕ, zero, suc, _+_, _-_, _<_, _≤_}
+use Prim.Native.Nat.{ℕ, suc, _+_, _-_, _<_, _≤_}
 use native.Mathlib.Nat.{sub-zero}
 use native.Mathlib.Omega.{arith}
-use mathlib.Core.Path.{_≡_, refl, sym, ap, _∙_}
+use mathlib.Core.Path.{_≡_, sym, ap, _∙_}
 use mathlib.Core.List.{List}
 use mathlib.Core.Bool.{Bool, true, false, cond}
-use lib.Dec.{leb}
 use lib.ListN.{length}
 use borrow.Author.Tests.{lt-ltb, le-ltb, le-leb, lt-leb, eq-eqb, ne-eqb}
 use Rattle.checker.specs.Bytes.{part}
 use Rattle.checker.specs.Limits.{minReadLength, maxReadLength}
-use Rattle.checker.specs.GraphForm.{vertexCount, readLength, readVertices, readEnd}
+use Rattle.checker.specs.GraphForm.{vertexCount, readLength, readEnd}
 use Rattle.checker.specs.GraphOf.{arcsOf}
 use Rattle.checker.specs.GraphFaults.{walks, readFault, readsVerdict, refusal, nothingRefused}
 

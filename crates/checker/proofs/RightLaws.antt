@@ -4,16 +4,13 @@ use native.Mathlib.Omega.{arith}
 use native.Mathlib.Decide.{decLe}
 use mathlib.Core.Path.{_≡_, refl, sym, ap, ap₂, subst, _∙_}
 use mathlib.Core.List.{List, [], _∷_}
-use mathlib.Core.Bool.{Bool, true, false, cond, not, _&&_, _||_}
+use mathlib.Core.Bool.{Bool, true, false, cond, _&&_, _||_}
 use mathlib.Core.Logic.{_⊎_, inl, inr, ⊎-elim}
 use lib.Dec.{T, ltb, eqb}
-use lib.ListN.{length}
 use borrow.Author.Tests.{ltb-true, ltb-false, leb-false, eqb-true, eqb-false, not-false, eq-eqb, ne-eqb, lt-ltb}
 use Rattle.mathematics.specs.Lists.{All}
-use Rattle.mathematics.specs.Graph.{linked}
 use Rattle.checker.specs.declared.Verdict.{Verdict}
 use Rattle.checker.specs.GraphForm.{vertexCount, arcCount, arcAt, arcTail, arcHead, readVertices}
-use Rattle.checker.specs.GraphOf.{arcsOf}
 use Rattle.checker.specs.GraphFaults.{refusal, nothingRefused, headerVerdict, firstFault, vertexFault, follows, ascends, arcFault, arcsVerdict, allBelow, walks, readFault}
 use Rattle.checker.specs.GraphReads.{HeaderRight, VertexRight, ArcRight, Before, ReadRight, ArcsRight}
 

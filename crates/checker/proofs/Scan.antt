@@ -1,11 +1,10 @@
 -- Laws of `firstFault`, for a loop over records of one kind: what the loop has passed was right, so the answer of all is the answer of the rest.
-use Prim.Native.Nat.{ℕ, zero, suc, _+_, _-_, _<_, _≤_}
+use Prim.Native.Nat.{ℕ, suc, _+_, _-_, _<_, _≤_}
 use native.Mathlib.Nat.{sub-zero}
 use native.Mathlib.Numerals.{add-one}
 use native.Mathlib.Omega.{arith}
-use mathlib.Core.Path.{_≡_, refl, sym, _∙_}
+use mathlib.Core.Path.{_≡_, sym, _∙_}
 use borrow.Author.Tests.{eq-eqb, ne-eqb}
-use Rattle.checker.specs.declared.Verdict.{Verdict}
 use Rattle.checker.specs.GraphFaults.{firstFault, refusal, nothingRefused}
 
 module _ (fault place : ℕ → ℕ) where
