@@ -73,7 +73,7 @@ impl Graph {
     pub const MIN_READ: usize = 2;
 
     pub const MAX_READ: usize = 16;
-    // Document 01, "The two forms": how long the header, a vertex's record, an arc's record and the longest form are, and where the counts stand.
+    // Document 01, "The two forms": how long the header, a vertex's record, an arc's record and the longest form are, and where the header's values stand.
     pub const HEADER: usize = 13;
 
     pub const VERTEX: usize = 5;
@@ -82,11 +82,15 @@ impl Graph {
 
     pub const LONGEST: usize = 3165;
 
+    pub const AT_VERSION: usize = 4;
+
     pub const AT_VERTICES: usize = 5;
 
     pub const AT_ARCS: usize = 6;
 
     pub const AT_READS: usize = 8;
+
+    pub const AT_OPENING: usize = 9;
 
     // The graph with nothing in it. The limits are the definitions' own.
     pub fn empty() -> Graph
