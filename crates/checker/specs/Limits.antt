@@ -26,3 +26,17 @@ minReadLength = 2
 
 abbrev pub maxReadLength : ℕ
 maxReadLength = 16
+
+-- "In an answer: paths 0..464 (64+256+64+64+16), weights totalling at most 320,000,016, marks -2,000,000,000..2,000,000,000."
+abbrev pub maxPaths : ℕ
+maxPaths = 464
+
+abbrev pub maxWeight : ℕ
+maxWeight = 320_000_016
+
+abbrev pub markLimit : ℕ
+markLimit = 2_000_000_000
+
+-- "vertex count 1..64"
+abbrev pub maxPathLength : ℕ
+maxPathLength = 64
