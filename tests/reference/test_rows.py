@@ -82,4 +82,4 @@ holds_that("a read met with others between", check(encode_graph(D._replace(arcs=
 joined_in_file_order = [(0, 1, 2, 4), (1, 2, 3)]
 holds_that("L is not joined in file order", sorted(prepare(L.reads)) == sorted(joined_in_file_order), False)
 
-print(f"test_rows: {passed} passed")
+print(f"{passed} passed, 0 failed")
