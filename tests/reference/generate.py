@@ -2,15 +2,17 @@
 
     python3 tests/reference/generate.py FAMILY SEED COUNT    writes COUNT graph forms as records: length in four bytes, then the form
 
-Families: small, small_reads, splicing, dense, wide_demands, limits, hard_reads; `every_small` gives a fixed list and takes no seed.
+Families: small, small_reads, splicing, dense, wide_demands, limits, hard_reads; `every_small` and `genes` (tests/data) are fixed lists, from
+which COUNT takes the first ones.
 """
 
 import itertools
+import os
 import random
 import sys
 
 from exists import useful_vertices
-from forms import MAX_ARCS, MAX_COST, MAX_DEMAND, MAX_OPENING, MAX_READS, MAX_VERTICES, Graph, encode_graph
+from forms import MAX_ARCS, MAX_COST, MAX_DEMAND, MAX_OPENING, MAX_READS, MAX_VERTICES, Graph, decode_graph, encode_graph, number_at
 
 FEWEST_COPIES_FIRST = 1_000_000  # the opening price of orders that want fewest copies first
 
@@ -206,18 +208,29 @@ def limits(rng):
     return graph._replace(reads=reads)
 
 
+def genes():
+    """The splicing graphs of real genes in tests/data."""
+    with open(os.path.join(os.path.dirname(os.path.abspath(__file__)), "..", "data", "genes.forms"), "rb") as f:
+        data = f.read()
+    while data:
+        length = number_at(data, 0, 4)
+        yield decode_graph(data[:length])
+        data = data[length:]
+
+
 FAMILIES = {f.__name__: f for f in (small, small_reads, splicing, dense, wide_demands, limits, hard_reads)}
+LISTS = {f.__name__: f for f in (every_small, genes)}
 
 
 def make(family, seed, count):
     """So many graphs of a family; graph k depends on family, seed and k alone."""
-    if family == "every_small":
-        return list(every_small())
+    if family in LISTS:
+        return list(itertools.islice(LISTS[family](), count))
     return [FAMILIES[family](random.Random(f"{family} {seed} {k}")) for k in range(count)]
 
 
 if __name__ == "__main__":
-    if len(sys.argv) != 4 or (sys.argv[1] not in FAMILIES and sys.argv[1] != "every_small"):
+    if len(sys.argv) != 4 or sys.argv[1] not in (*FAMILIES, *LISTS):
         sys.exit(__doc__)
     for graph in make(sys.argv[1], int(sys.argv[2]), int(sys.argv[3])):
         form = encode_graph(graph)

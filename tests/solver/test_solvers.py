@@ -18,7 +18,7 @@ import bound
 import prepare
 
 SMALL = 4000
-LARGE = {"splicing": 300, "hard_reads": 300, "dense": 60, "wide_demands": 60, "limits": 30}
+LARGE = {"genes": 133, "splicing": 300, "hard_reads": 300, "dense": 60, "wide_demands": 60, "limits": 30}
 
 passed = 0
 
@@ -111,7 +111,7 @@ if __name__ == "__main__":
     seed = int(sys.argv[1]) if len(sys.argv) > 1 else 1
     times = int(sys.argv[2]) if len(sys.argv) > 2 else 1
     print(f"seed {seed}")
-    compare_small("every small", make("every_small", seed, 0))
+    compare_small("every small", make("every_small", seed, None))
     small = make("small", seed, SMALL * times)
     compare_small("small", small)
     reads = make("small_reads", seed, SMALL * times)
