@@ -37,10 +37,12 @@ uint64_t peer_check(const uint8_t *graph, size_t graph_len, const uint8_t *s, si
         int last = vertices[0];
         if (last >= g.n || !(g.starts >> last & 1)) return peer_refuse(16, at, place);
         uint64_t set = 1ULL << last, cost = (uint64_t)g.opening;
+        through[last] += weight;
         for (int i = 1; i < count; i++) {
             int v = vertices[i];
             if (v >= g.n || !(g.heads[last] >> v & 1)) return peer_refuse(16, at, place);
-            int a = peer_arc(&g, last, v);
+            int a = g.arc[last][v];
+            through[v] += weight;
             arc_through[a] += weight;
             cost += g.cost[a];
             set |= 1ULL << v;
@@ -56,7 +58,6 @@ uint64_t peer_check(const uint8_t *graph, size_t graph_len, const uint8_t *s, si
             if (!ascends) return peer_refuse(18, at, place);
         }
         before = set;
-        for (uint64_t left = set; left; left &= left - 1) through[peer_low(left)] += weight;
         for (int r = 0; r < g.reads; r++) met |= (uint32_t)peer_holds(set, g.read[r]) << r;
         price += weight * cost;
         at += 5 + (size_t)count;

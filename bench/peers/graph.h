@@ -11,12 +11,12 @@ struct peer_graph {
     int64_t opening;
     uint64_t starts, ends;
     uint32_t demand[MAX_N];
-    uint64_t heads[MAX_N];    /* heads of the arcs that leave a vertex */
-    uint16_t first[MAX_N];    /* number of the first arc that leaves it, where there is one */
+    uint64_t heads[MAX_N];      /* heads of the arcs that leave a vertex */
+    uint16_t arc[MAX_N][MAX_N]; /* number of the arc from a vertex to another, where there is one; set nowhere else */
     uint8_t tail[MAX_ARCS], head[MAX_ARCS];
     uint32_t cost[MAX_ARCS], arc_demand[MAX_ARCS];
     uint64_t read[MAX_READS];
-    int prepared_count;       /* set by peer_prepare */
+    int prepared_count;         /* set by peer_prepare */
     uint64_t prepared[MAX_READS];
 };
 
@@ -34,11 +34,6 @@ static inline uint64_t peer_to(int v) { return ~0ULL >> (63 - v); }
 /* whether path holds the vertices of read one right after the other */
 static inline int peer_holds(uint64_t path, uint64_t read) {
     return (path & peer_from(peer_low(read)) & peer_to(peer_high(read))) == read;
-}
-
-/* the number of the arc from tail to head, which is there */
-static inline int peer_arc(const struct peer_graph *g, int tail, int head) {
-    return g->first[tail] + __builtin_popcountll(g->heads[tail] & ((1ULL << head) - 1));
 }
 
 static inline uint64_t peer_refuse(uint64_t number, uint64_t at, uint64_t *place) {
@@ -75,8 +70,8 @@ static inline uint64_t peer_read(const uint8_t *s, size_t len, struct peer_graph
         if (cost > 1000000 || demand > 1000000) return peer_refuse(4, at, place);
         if (tail >= head || head >= n || tail * 256 + head <= before) return peer_refuse(6, at, place);
         before = tail * 256 + head;
-        if (g->heads[tail] == 0) g->first[tail] = (uint16_t)a;
         g->heads[tail] |= 1ULL << head;
+        g->arc[tail][head] = (uint16_t)a;
         g->tail[a] = (uint8_t)tail, g->head[a] = (uint8_t)head, g->cost[a] = cost, g->arc_demand[a] = demand;
     }
     for (int r = 0; r < reads; r++) {
@@ -143,7 +138,7 @@ static inline void peer_rests(const struct peer_graph *g, uint32_t *rest, uint32
             int v = peer_low(set);
             if (rest[v]) rest[v]--;
             if (last >= 0) {
-                int a = peer_arc(g, last, v);
+                int a = g->arc[last][v];
                 if (arc_rest[a]) arc_rest[a]--;
                 cost += g->cost[a];
             }
