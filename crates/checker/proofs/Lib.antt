@@ -10,3 +10,17 @@ pub mod ThenLaws
 pub mod GraphReads
 pub mod GraphFacts
 pub mod Lookup
+-- The theorems of the checker: what a verdict of 0 says, soundness, the marked rows, the answer form written and read back, completeness, the hand-out.
+pub mod Accepted
+pub mod Ascending
+pub mod Soundness
+pub mod Rows
+pub mod Encoding
+pub mod Inside
+pub mod MarksAgree
+pub mod Sorted
+pub mod PriceNumber
+pub mod GraphRange
+pub mod Completeness
+pub mod HandedOut
+pub mod Determined

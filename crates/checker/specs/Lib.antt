@@ -6,3 +6,7 @@ pub mod GraphOf
 pub mod GraphReads
 pub mod ArcTable
 pub mod Empty
+pub mod AnswerForm
+pub mod AnswerFaults
+pub mod Check
+pub mod Encode

@@ -38,8 +38,12 @@ maxPaths = 464
 abbrev pub maxWeight : ℕ
 maxWeight = 320_000_016
 
-abbrev pub maxMark : ℕ
-maxMark = 2_000_000_000
+abbrev pub markLimit : ℕ
+markLimit = 2_000_000_000
+
+-- "vertex count 1..64"
+abbrev pub maxPathLength : ℕ
+maxPathLength = 64
 
 -- "Answer: .. The longest is 32,543 bytes."
 abbrev pub longestAnswer : ℕ

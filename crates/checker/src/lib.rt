@@ -5,7 +5,7 @@ pub mod reader;
 
 ghost use mathlib.Core.Path.{_≡_};
 ghost use Rattle.checker.specs.GraphFaults.{refusal};
-ghost use Rattle.checker.specs.Limits.{maxVertices, maxArcs, maxReads, maxOpening, maxCost, maxDemand, minReadLength, maxReadLength, longestGraph, maxPaths, maxWeight, maxMark, longestAnswer};
+ghost use Rattle.checker.specs.Limits.{maxVertices, maxArcs, maxReads, maxOpening, maxCost, maxDemand, minReadLength, maxReadLength, longestGraph, maxPaths, maxWeight, markLimit, longestAnswer};
 ghost use Rattle.checker.specs.Empty.{emptyHeader, emptyGraph, emptyAnswer};
 
 // What a call answers where an input may be turned down: the refusal's number and its place; both are 0 where nothing is refused.
@@ -124,7 +124,7 @@ impl Answer {
     // The answer with nothing in it. The limits are the definitions' own.
     pub fn empty() -> Answer
         ensures { λ r. ⌜ r ≡ emptyAnswer ⌝ }
-        ensures limits { λ r. do ⌜ ((← ⟦Answer::MAX_PATHS⟧ .entry) ≡ maxPaths) × ((← ⟦Answer::MAX_WEIGHT⟧ .entry) ≡ maxWeight) × ((← ⟦Answer::MARK_LIMIT⟧ .entry) ≡ maxMark) × ((← ⟦Answer::LONGEST⟧ .entry) ≡ longestAnswer) ⌝ }
+        ensures limits { λ r. do ⌜ ((← ⟦Answer::MAX_PATHS⟧ .entry) ≡ maxPaths) × ((← ⟦Answer::MAX_WEIGHT⟧ .entry) ≡ maxWeight) × ((← ⟦Answer::MARK_LIMIT⟧ .entry) ≡ markLimit) × ((← ⟦Answer::LONGEST⟧ .entry) ≡ longestAnswer) ⌝ }
     {
         Answer { paths: 0, price: 0 }
     }

@@ -5,4 +5,5 @@ pub mod Cover
 pub mod Prepare
 pub mod Bound
 pub mod Exists
+pub mod Reach
 pub mod Range
