@@ -21,9 +21,9 @@ module _ (rows : List (List ℕ)) (lens : List ℕ) (i j : ℕ) (best : Meeting)
   unfolding nextAt
   next-longer n d e l = sym (simp (ne-eqb i j d, sym e, lt-ltb (best .length) n l))
 
-  pub next-kept : (n : ℕ) → (i ≡ j → ⊥) → n ≡ overlap (rowAt rows lens i) (rowAt rows lens j) → n ≤ best .length → best ≡ nextAt rows lens i j best
+  pub next-kept : (i ≡ j → ⊥) → overlap (rowAt rows lens i) (rowAt rows lens j) ≤ best .length → best ≡ nextAt rows lens i j best
   unfolding nextAt
-  next-kept n d e l = sym (simp (ne-eqb i j d, sym e, le-ltb (best .length) n l))
+  next-kept d l = sym (simp (ne-eqb i j d, le-ltb (best .length) (overlap (rowAt rows lens i) (rowAt rows lens j)) l))
 
 module _ (rows : List (List ℕ)) (lens : List ℕ) (count i : ℕ) (t : TableHolds rows lens count) where
   pub with-turn : (j : ℕ) (best next m : Meeting) → m ≡ withFrom rows lens count i j best → j < count → next ≡ nextAt rows lens i j best → m ≡ withFrom rows lens count i (j + 1) next

@@ -13,21 +13,9 @@ use lib.Dec.{eqb}
 use lib.ListN.{length, getD, drop, set, length-set}
 use Rattle.mathematics.specs.Prepare.{dropParts, Meeting, longest, without, joinAt, joinWhile, prepare}
 use Rattle.mathematics.proofs.Dropped.{dropped-fewer}
-use Rattle.mathematics.proofs.Longest.{Meets, longest-meets}
+use Rattle.mathematics.proofs.Joined.{join, join-fewer}
 use Rattle.checker.specs.ReadTable.{rowsOf, TableHolds, Leaves}
 use Rattle.checker.proofs.TableRows.{table-length}
-use Rattle.checker.proofs.JoinLaws.{length-without}
-
-join-fewer : (rs : List (List ℕ)) (m : Meeting) → m .i < length rs → m .j < length rs → suc (length (joinAt m rs)) ≡ length rs
-unfolding joinAt
-join-fewer rs m li lj =
-    let read : List ℕ = getD rs (m .i) [] ++ drop (m .length) (getD rs (m .j) []) in
-    let same : length (set rs (min (m .i) (m .j)) read) ≡ length rs = length-set rs (min (m .i) (m .j)) read in
-    length-without (max (m .i) (m .j)) (set rs (min (m .i) (m .j)) read) (omega (arith, same)) ∙ same
-
-longest-fewer : (rs : List (List ℕ)) → (longest rs .length ≡ 0 → ⊥) → suc (length (joinAt (longest rs) rs)) ≡ length rs
-longest-fewer rs n =
-    elim (longest-meets rs) [ inl z ↦ absurd (n z) | inr g ↦ join-fewer rs (longest rs) (g .i-below) (g .j-below) ]
 
 pub while-stop : (turns : ℕ) (rs : List (List ℕ)) → longest rs .length ≡ 0 → joinWhile turns rs ≡ rs
 while-stop zero rs e = refl
@@ -53,7 +41,7 @@ while-more (suc turns) rs l =
       | yes e ↦ while-stop (suc (suc turns)) rs e ∙ sym (while-stop (suc turns) rs e)
       | no n ↦
           while-turn (suc turns) rs n
-          ∙ (while-more turns (joinAt (longest rs) rs) (omega (arith, longest-fewer rs n)) ∙ sym (while-turn turns rs n))
+          ∙ (while-more turns (joinAt (longest rs) rs) (omega (arith, join-fewer rs (joinAt (longest rs) rs) (join rs n))) ∙ sym (while-turn turns rs n))
     ]
 
 while-enough : (turns k : ℕ) (rs : List (List ℕ)) → k ≤ turns → length rs ≤ k → joinWhile turns rs ≡ joinWhile k rs

@@ -91,12 +91,12 @@ climbs-at r c i (suc j) l m =
       | inr h ↦ omega (arith, climbs-at r c i j (omega arith) (omega arith), step)
     ]
 
+pub climbs-to : (r : List ℕ) → Climbs r → (i j : ℕ) → i ≤ j → j < length r → getD r i 0 ≤ getD r j 0
+climbs-to r c i j l m =
+    elim (eq-or-lt-of-le l) [ inl e ↦ rw e (omega arith) | inr h ↦ omega (arith, climbs-at r c i j h m) ]
+
 pub climbs-last : (r : List ℕ) → Climbs r → (k : ℕ) → k < length r → getD r k 0 ≤ getD r (length r - 1) 0
-climbs-last r c k l =
-    elim (eq-or-lt-of-le l) [
-      | inl e ↦ let same : length r - 1 ≡ k = omega (arith, e) in rw same (omega arith)
-      | inr h ↦ omega (arith, climbs-at r c k (length r - 1) (omega arith) (omega arith))
-    ]
+climbs-last r c k l = climbs-to r c k (length r - 1) (omega arith) (omega arith)
 
 rising-tail : (x : ℕ) (r : List ℕ) → Climbs (x ∷ r) → Climbs r
 rising-tail x r c k l = rw (add-one k) (rw (add-one (suc k)) at (c (suc k) (omega arith)))

@@ -229,9 +229,17 @@ fn longer_of(
     if i == j {
         return best;
     }
-    let n = overlap(rows, lens, i, j);
-    if best.length < n {
-        return Meeting { length: n, i, j };
+    let n = lens[i];
+    let floor = best.length;
+    if n <= floor {
+        return best;
+    }
+    if rows[i][n - 1 - floor] < rows[j][0] {
+        return best;
+    }
+    let k = overlap(rows, lens, i, j);
+    if floor < k {
+        return Meeting { length: k, i, j };
     }
     best
 }
