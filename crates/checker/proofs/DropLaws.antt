@@ -4,15 +4,15 @@ use native.Mathlib.Omega.{arith}
 use native.Mathlib.Numerals.{add-one}
 use native.Mathlib.Decide.{decLt}
 use native.Mathlib.Nat.{add-zero}
-use mathlib.Core.Path.{_≡_, refl, sym, ap, ap₂, subst, _∙_}
+use mathlib.Core.Path.{_≡_, refl, sym, ap, subst, _∙_}
 use mathlib.Core.List.{List, [], _∷_, _++_, append-nil, append-assoc}
 use mathlib.Core.Bool.{Bool, true, false, cond, _||_}
-use lib.ListN.{length, getD, take, drop, set, length-set, length-take, drop-of-length-le}
+use lib.ListN.{length, getD, take, drop, set, length-set, drop-of-length-le}
 use lib.Seq.{take-suc, drop-cons, take-take, take-suc-set, drop-set-lt, drop-drop, getD-drop, getD-set-same, getD-set-other}
 use Rattle.mathematics.specs.Lists.{All, someHolds}
 use Rattle.mathematics.specs.Prepare.{someLonger, dropParts}
 use Rattle.mathematics.proofs.Dropped.{dropped-all}
-use Rattle.checker.specs.ReadTable.{rowAt, used, rowsOf, ReadHolds, RowHolds, TableHolds, heldFrom, longerFrom, gone}
+use Rattle.checker.specs.ReadTable.{rowAt, used, rowsOf, ReadHolds, TableHolds, heldFrom, longerFrom, gone}
 use Rattle.checker.proofs.TableLaws.{at-all}
 use Rattle.checker.proofs.TableRows.{used-set, used-rows, used-row, table-length, table-get}
 

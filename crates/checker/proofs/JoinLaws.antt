@@ -1,22 +1,17 @@
 -- Joining two reads in the table: the joined row is built, the row that is taken out is closed up, and the joined read rises, so that it fits a row.
-use Prim.Native.Nat.{ℕ, zero, suc, _+_, _-_, _≤_, _<_, min, max}
+use Prim.Native.Nat.{ℕ, zero, suc, _+_, _-_, _≤_, _<_}
 use native.Mathlib.Omega.{arith}
 use native.Mathlib.Numerals.{add-one}
 use native.Mathlib.Decide.{ℕ-discrete}
-use mathlib.Core.Path.{_≡_, refl, sym, ap, ap₂, subst, subst₂, _∙_}
+use mathlib.Core.Path.{_≡_, refl, sym, ap, subst, _∙_}
 use mathlib.Core.List.{List, [], _∷_, _++_, append-nil, append-assoc}
-use mathlib.Core.Logic.{_⊎_, inl, inr}
-use lib.ListN.{length, getD, take, drop, set, length-append, length-set, length-take, length-drop, drop-of-length-le}
-use lib.Seq.{take-suc, drop-cons, take-nil, drop-append-seam, take-suc-set, take-set-lt, drop-set-lt, drop-drop, getD-drop, getD-set-same, getD-set-other}
+use lib.ListN.{length, getD, take, drop, set, length-set, drop-of-length-le}
+use lib.Seq.{take-suc, drop-cons, take-nil, take-suc-set, take-set-lt, drop-set-lt, getD-set-same, getD-set-other}
 use Rattle.mathematics.specs.Lists.{All}
-use Rattle.mathematics.specs.Prepare.{overlap, Meeting, longest, without, joinAt}
-use Rattle.mathematics.proofs.Basics.{all-weaken, all-append, all-left, all-right}
-use Rattle.mathematics.proofs.Parts.{Rising}
-use Rattle.mathematics.proofs.Overlap.{Meet, overlap-meets}
-use Rattle.mathematics.proofs.Longest.{Meets, longest-meets}
-use Rattle.checker.specs.ReadTable.{rowAt, used, rowsOf, ReadHolds, RowHolds, TableHolds, Leaves, joinOf}
-use Rattle.checker.proofs.TableLaws.{at-all, row-get, climbs-rising, rising-climbs}
-use Rattle.checker.proofs.TableRows.{used-set, used-rows, used-row, table-length, table-get, table-row}
+use Rattle.mathematics.specs.Prepare.{without}
+use Rattle.checker.specs.ReadTable.{rowAt, used, rowsOf, ReadHolds, RowHolds, TableHolds, joinOf}
+use Rattle.checker.proofs.TableLaws.{at-all, row-get}
+use Rattle.checker.proofs.TableRows.{used-set, used-rows, used-row}
 use Rattle.checker.proofs.DropLaws.{all-set, later, there}
 
 module _ {A : Type 0} where
@@ -37,7 +32,7 @@ module _ {A : Type 0} where
   get-without d (suc gap) zero (x ∷ xs) l = absurd (omega arith)
   get-without d (suc gap) (suc k) (x ∷ xs) l = get-without d gap k xs (omega arith)
 
-  pub length-without : (gap : ℕ) (xs : List A) → gap < length xs → suc (length (without gap xs)) ≡ length xs
+  length-without : (gap : ℕ) (xs : List A) → gap < length xs → suc (length (without gap xs)) ≡ length xs
   length-without gap [] l = absurd (omega arith)
   length-without zero (x ∷ xs) l = refl
   length-without (suc gap) (x ∷ xs) l = ap suc (length-without gap xs (omega arith))

@@ -1,16 +1,18 @@
 -- The search for the longest overlap, row by row, finds what `longest` of the table's reads is.
-use Prim.Native.Nat.{ℕ, zero, suc, _+_, _≤_, _<_}
+use Prim.Native.Nat.{ℕ, _+_, _≤_, _<_}
 use native.Mathlib.Omega.{arith}
 use native.Mathlib.Numerals.{add-one}
 use borrow.Author.Tests.{eq-eqb, ne-eqb, lt-ltb, le-ltb}
-use mathlib.Core.Path.{_≡_, refl, sym, ap, ap₂, subst, _∙_}
-use mathlib.Core.List.{List, [], _∷_}
-use mathlib.Core.Bool.{Bool, true, false, cond}
-use lib.Dec.{eqb, ltb}
+use mathlib.Core.Path.{_≡_, refl, sym, ap, ap₂, _∙_}
+use mathlib.Core.List.{List}
 use lib.ListN.{length, drop, drop-of-length-le}
-use Rattle.mathematics.specs.Prepare.{overlap, Meeting, longer, longestWith, longestFrom, longest}
-use Rattle.checker.specs.ReadTable.{rowAt, rowsOf, TableHolds, nextAt, withFrom, allFrom}
+use Rattle.mathematics.specs.Prepare.{overlap, Meeting, longestWith, longestFrom, longest}
+use Rattle.checker.specs.ReadTable.{rowAt, rowsOf, TableHolds, nextAt, withFrom}
 use Rattle.checker.proofs.TableRows.{table-from, table-length}
+
+-- the longest with a read from row i on, and best
+pub allFrom : List (List ℕ) → List ℕ → ℕ → ℕ → Meeting → Meeting
+allFrom rows lens count i best = longestFrom i (rowsOf rows lens count) (drop i (rowsOf rows lens count)) best
 
 module _ (rows : List (List ℕ)) (lens : List ℕ) (i j : ℕ) (best : Meeting) where
   pub next-same : i ≡ j → best ≡ nextAt rows lens i j best

@@ -4,17 +4,17 @@ use native.Mathlib.Omega.{arith}
 use native.Mathlib.Nat.{add-zero, eq-or-lt-of-le}
 use native.Mathlib.Decide.{decLt}
 use mathlib.Core.Path.{_≡_, refl, sym, ap, subst, subst₂, _∙_}
-use mathlib.Core.List.{List, [], _∷_, _++_}
+use mathlib.Core.List.{List, [], _++_}
 use mathlib.Core.Bool.{Bool, true, false, cond}
 use mathlib.Core.Logic.{_⊎_, inl, inr}
 use lib.Dec.{T}
-use lib.ListN.{length, getD, take, drop, length-append, length-take, length-drop, take-append-drop, List·getD-append}
+use lib.ListN.{length, getD, drop, length-append, List·getD-append}
 use lib.Seq.{getD-append-add, drop-append-seam}
 use Rattle.mathematics.specs.Lists.{begins}
 use Rattle.mathematics.specs.Prepare.{overlapUpTo, overlap}
 use Rattle.mathematics.proofs.Parts.{begins-append}
-use Rattle.mathematics.proofs.Overlap.{Meet, overlap-meets}
-use Rattle.checker.specs.ReadTable.{rowAt, runs, Climbs, ReadHolds, RowHolds, Place}
+use Rattle.mathematics.proofs.Overlap.{overlap-meets}
+use Rattle.checker.specs.ReadTable.{rowAt, runs, Climbs, RowHolds, Place}
 use Rattle.checker.proofs.TableLaws.{row-get, last-get, climbs-at, climbs-to, climbs-last}
 
 -- a number stands at one place of a list that climbs

@@ -1,23 +1,22 @@
 -- The "While" of joining, turn by turn: as many turns as there are reads are enough, one turn joins one pair, and the end is where no two reads overlap.
-use Prim.Native.Nat.{ℕ, zero, suc, _+_, _≤_, _<_, max, min}
+use Prim.Native.Nat.{ℕ, zero, suc, _+_, _≤_}
 use native.Mathlib.Omega.{arith}
 use native.Mathlib.Numerals.{add-one}
 use native.Mathlib.Nat.{eq-or-lt-of-le}
 use borrow.Author.Tests.{eq-eqb, ne-eqb}
-use mathlib.Core.Path.{_≡_, refl, sym, ap, subst, _∙_}
-use mathlib.Core.List.{List, [], _∷_, _++_}
-use mathlib.Core.Bool.{Bool, true, false, cond}
-use mathlib.Core.Logic.{_⊎_, inl, inr}
+use mathlib.Core.Path.{_≡_, refl, sym, ap, _∙_}
+use mathlib.Core.List.{List, [], _∷_}
+use mathlib.Core.Bool.{Bool, cond}
+use mathlib.Core.Logic.{inl, inr}
 use native.Mathlib.Decide.{ℕ-discrete}
-use lib.Dec.{eqb}
-use lib.ListN.{length, getD, drop, set, length-set}
-use Rattle.mathematics.specs.Prepare.{dropParts, Meeting, longest, without, joinAt, joinWhile, prepare}
+use lib.ListN.{length}
+use Rattle.mathematics.specs.Prepare.{dropParts, Meeting, longest, joinAt, joinWhile, prepare}
 use Rattle.mathematics.proofs.Dropped.{dropped-fewer}
 use Rattle.mathematics.proofs.Joined.{join, join-fewer}
 use Rattle.checker.specs.ReadTable.{rowsOf, TableHolds, Leaves}
 use Rattle.checker.proofs.TableRows.{table-length}
 
-pub while-stop : (turns : ℕ) (rs : List (List ℕ)) → longest rs .length ≡ 0 → joinWhile turns rs ≡ rs
+while-stop : (turns : ℕ) (rs : List (List ℕ)) → longest rs .length ≡ 0 → joinWhile turns rs ≡ rs
 while-stop zero rs e = refl
 while-stop (suc turns) rs e =
     ap (λ (b : Bool). cond b rs (joinWhile turns (joinAt (longest rs) rs))) (eq-eqb (longest rs .length) 0 e)

@@ -1,21 +1,21 @@
 -- Laws on rising lists of numbers and on the table of reads, a law for each step of the code that prepares the reads.
-use Prim.Native.Nat.{ℕ, zero, suc, _+_, _-_, _≤_, _<_, pred, min, max}
+use Prim.Native.Nat.{ℕ, zero, suc, _+_, _-_, _≤_, _<_, pred}
 use native.Mathlib.Omega.{arith}
 use native.Mathlib.Numerals.{add-one}
 use native.Mathlib.Nat.{eq-or-lt-of-le}
 use borrow.Author.Count.{below-more}
 use borrow.Author.Tests.{eq-eqb, ne-eqb}
-use mathlib.Core.Path.{_≡_, refl, sym, ap, ap₂, subst, _∙_}
+use mathlib.Core.Path.{_≡_, refl, sym, ap, ap₂, _∙_}
 use mathlib.Core.List.{List, [], _∷_, _++_}
-use mathlib.Core.Bool.{Bool, true, false, cond, _&&_, _||_}
-use mathlib.Core.Logic.{_⊎_, inl, inr}
-use lib.Dec.{T, eqb, ltb, leb}
-use lib.ListN.{length, getD, take, drop, set, length-append, length-take, length-drop, List·getD-append, drop-of-length-le}
+use mathlib.Core.Bool.{Bool, true, false, _&&_, _||_}
+use mathlib.Core.Logic.{inl, inr}
+use lib.Dec.{T, eqb}
+use lib.ListN.{length, getD, drop, length-append, length-drop, List·getD-append, drop-of-length-le}
 use lib.Seq.{getD-take, getD-append-add, drop-cons}
-use Rattle.mathematics.specs.Lists.{All, begins, holds, someHolds}
+use Rattle.mathematics.specs.Lists.{All, begins, holds}
 use Rattle.mathematics.proofs.Basics.{all-weaken, is-false}
 use Rattle.mathematics.proofs.Parts.{Rising, holds-within}
-use Rattle.checker.specs.ReadTable.{rowAt, runs, used, rowsOf, Climbs, ReadHolds, RowHolds, TableHolds, Place}
+use Rattle.checker.specs.ReadTable.{rowAt, runs, Climbs, RowHolds, Place}
 
 and-false : (t : Bool) → t && false ≡ false
 and-false true = refl

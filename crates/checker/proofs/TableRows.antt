@@ -1,13 +1,12 @@
 -- The table of reads and the list of reads that it stands for: a row's read, stores into a row and its length, and the tests of dropping, read row by row.
-use Prim.Native.Nat.{ℕ, zero, suc, _+_, _-_, _≤_, _<_, min}
+use Prim.Native.Nat.{ℕ, zero, suc, _+_, _≤_, _<_, min}
 use native.Mathlib.Omega.{arith}
 use native.Mathlib.Numerals.{add-one}
 use borrow.Author.Tests.{lt-ltb, le-ltb}
-use mathlib.Core.Path.{_≡_, refl, sym, ap, ap₂, subst, _∙_}
-use mathlib.Core.List.{List, [], _∷_, _++_}
+use mathlib.Core.Path.{_≡_, refl, sym, ap, subst, _∙_}
+use mathlib.Core.List.{List, [], _∷_}
 use mathlib.Core.Bool.{Bool, true, false, _&&_, _||_}
-use lib.Dec.{ltb}
-use lib.ListN.{length, getD, take, drop, set, length-take, length-drop, drop-of-length-le}
+use lib.ListN.{length, getD, take, drop, set, length-take, drop-of-length-le}
 use native.Mathlib.Decide.{decLt}
 use lib.Seq.{getD-take, drop-cons, take-take, getD-set-same, getD-set-other}
 use Rattle.mathematics.specs.Lists.{All, holds, someHolds}
@@ -42,11 +41,11 @@ module _ (rows : List (List ℕ)) (lens : List ℕ) (tall : length rows ≡ 16) 
   unfolding rowAt
   used-row i l = used-get rows lens i (omega arith) (omega arith)
 
-  pub rows-length : (count : ℕ) → count ≤ 16 → length (rowsOf rows lens count) ≡ count
+  rows-length : (count : ℕ) → count ≤ 16 → length (rowsOf rows lens count) ≡ count
   unfolding rowsOf
   rows-length count l = omega (arith, length-take count (used rows lens), used-rows)
 
-  pub rows-get : (count i : ℕ) → count ≤ 16 → i < count → getD (rowsOf rows lens count) i [] ≡ rowAt rows lens i
+  rows-get : (count i : ℕ) → count ≤ 16 → i < count → getD (rowsOf rows lens count) i [] ≡ rowAt rows lens i
   unfolding rowsOf
   rows-get count i l m = getD-take count (used rows lens) i [] m ∙ used-row i (omega arith)
 

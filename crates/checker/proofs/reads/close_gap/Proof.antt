@@ -1,10 +1,9 @@
+-- `checker::reads::close_gap` meets its contract: the rows up to k are those without the gap, and the rows from k on are as they were.
 use Prim.Native.Nat.{_-_}
 use Rattle.checker.proofs.JoinLaws.{Gap, gap-start, gap-turn, gap-end, gap-table}
 use borrow.Author.Needs.{needs}
 use Rattle.checker.proofs.reads.close_gap.Statement.{statement}
 use Rattle.checker.proofs.reads.close_gap.Tie as tie
-use Rattle.checker.proofs.reads.close_gap.Reads as reads
-use Rattle.checker.proofs.reads.close_gap.Lts as lts
 
 abbrev Inv-loop : tie.InvT-loop
 Inv-loop rows₀ lens₀ count gap k₀ rows lens k = Gap rows₀ lens₀ count gap rows lens k

@@ -1,15 +1,11 @@
+-- `checker::reads::join_at` meets its contract: the pair with the longest overlap can be joined, and the joined read fits a row.
 use native.Mathlib.Omega.{arith}
 use mathlib.Core.Path.{sym, subst, _∙_}
 use Rattle.checker.specs.ReadTable.{ReadHolds, meeting}
 use Rattle.checker.proofs.TableRows.{table-row}
 use Rattle.checker.proofs.JoinedRead.{Joins, longest-joins, join-before, join-after}
-use borrow.Author.Needs.{needs}
 use Rattle.checker.proofs.reads.join_at.Statement.{statement}
 use Rattle.checker.proofs.reads.join_at.Tie as tie
-use Rattle.checker.proofs.reads.join_at.Reads as reads
-use Rattle.checker.proofs.reads.join_at.Lts as lts
-use Rattle.checker.proofs.reads.joined.Reads as joined-reads
-use Rattle.checker.proofs.reads.put_row.Reads as put-row-reads
 
 -- what the pair with the longest overlap has
 facts : (c : tie.Start) → Joins (c .args .rows .now) (c .args .lens .now) (c .args .count) (meeting (c .args .m))

@@ -1,11 +1,10 @@
+-- `checker::reads::move_up` meets its contract: the rows kept so far, and what dropping leaves of the rest, are what dropping leaves of all.
 use Prim.Native.Nat.{_-_}
 use mathlib.Core.Path.{_∙_, sym}
 use Rattle.checker.proofs.DropLaws.{Moved, moved-start, moved-skip, moved-keep, moved-end, moved-table}
 use borrow.Author.Needs.{needs}
 use Rattle.checker.proofs.reads.move_up.Statement.{statement}
 use Rattle.checker.proofs.reads.move_up.Tie as tie
-use Rattle.checker.proofs.reads.move_up.Reads as reads
-use Rattle.checker.proofs.reads.move_up.Lts as lts
 
 abbrev Inv-loop : tie.InvT-loop
 Inv-loop rows₀ lens₀ count marks w₀ i₀ rows lens w i = Moved rows₀ lens₀ count rows lens i w

@@ -1,3 +1,4 @@
+-- `checker::reads::prepare_reads` meets its contract: what joining is still to make of the table is what preparing makes of the reads at entry.
 use native.Mathlib.Omega.{arith}
 use mathlib.Core.Path.{_≡_, refl, sym, _∙_}
 use Rattle.mathematics.specs.Prepare.{joinWhile}
@@ -7,11 +8,6 @@ use Rattle.checker.proofs.PrepareLaws.{prepare-few, prepare-start, prep
 use borrow.Author.Needs.{needs}
 use Rattle.checker.proofs.reads.prepare_reads.Statement.{statement}
 use Rattle.checker.proofs.reads.prepare_reads.Tie as tie
-use Rattle.checker.proofs.reads.prepare_reads.Reads as reads
-use Rattle.checker.proofs.reads.prepare_reads.Lts as lts
-use Rattle.checker.proofs.reads.drop_parts.Reads as drop-parts-reads
-use Rattle.checker.proofs.reads.join_at.Reads as join-at-reads
-use Rattle.checker.proofs.reads.longest.Reads as longest-reads
 
 abbrev Inv-loop : tie.InvT-loop
 Inv-loop rows₀ lens₀ count n₀ rows lens n = TableHolds rows lens n × (joinWhile n₀ (rowsOf rows₀ lens₀ n₀) ≡ joinWhile n (rowsOf rows lens n))

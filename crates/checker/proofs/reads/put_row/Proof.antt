@@ -1,12 +1,10 @@
+-- `checker::reads::put_row` meets its contract: a store into a row, and then the gap is closed.
 use mathlib.Core.Path.{ap, _∙_}
 use Rattle.mathematics.specs.Prepare.{without}
 use Rattle.checker.proofs.JoinLaws.{put-table, put-reads}
 use borrow.Author.Needs.{needs}
 use Rattle.checker.proofs.reads.put_row.Statement.{statement}
 use Rattle.checker.proofs.reads.put_row.Tie as tie
-use Rattle.checker.proofs.reads.put_row.Reads as reads
-use Rattle.checker.proofs.reads.put_row.Lts as lts
-use Rattle.checker.proofs.reads.close_gap.Reads as close-gap-reads
 
 mul-row : tie.Need-mul-row
 mul-row c = search needs
