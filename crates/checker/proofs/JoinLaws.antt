@@ -53,7 +53,9 @@ pub record Gap (rows₀ : List (List ℕ)) (lens₀ : List ℕ) (count gap : ℕ
   pub done : take k (used rows lens) ≡ take k (without gap (used rows₀ lens₀))
   pub rest : drop k (used rows lens) ≡ drop k (used rows₀ lens₀)
 
-pub gap-start : (rows : List (List ℕ)) (lens : List ℕ) (count gap : ℕ) → TableHolds rows lens count → gap < count → Gap rows lens count gap rows lens gap
+-- nothing moved yet
+pub gap-start : (rows : List (List ℕ)) (lens : List ℕ) (count gap : ℕ) → TableHolds rows lens count → gap < count →
+    Gap rows lens count gap rows lens gap
 gap-start rows lens count gap t l =
     record {
       from = omega arith;
@@ -74,10 +76,12 @@ module _ (rows₀ : List (List ℕ)) (lens₀ : List ℕ) (count gap : ℕ) (row
       ∙ (there [] (used rows lens) (used rows₀ lens₀) (k + 1) (later (used rows lens) (used rows₀ lens₀) k (g .rest))
       ∙ (ap (λ (n : ℕ). getD (used rows₀ lens₀) n []) (add-one k) ∙ sym (get-without [] gap k (used rows₀ lens₀) (g .from))))
 
-  gap-used : k + 1 < count → used (set rows k (getD rows (k + 1) [])) (set lens k (getD lens (k + 1) 0)) ≡ set (used rows lens) k (getD (without gap (used rows₀ lens₀)) k [])
+  gap-used : k + 1 < count →
+      used (set rows k (getD rows (k + 1) [])) (set lens k (getD lens (k + 1) 0)) ≡ set (used rows lens) k (getD (without gap (used rows₀ lens₀)) k [])
   gap-used l = used-set rows lens k (getD rows (k + 1) []) (getD lens (k + 1) 0) ∙ ap (set (used rows lens) k) (gap-read l)
 
-  gap-done : k + 1 < count → take (k + 1) (set (used rows lens) k (getD (without gap (used rows₀ lens₀)) k [])) ≡ take (k + 1) (without gap (used rows₀ lens₀))
+  gap-done : k + 1 < count →
+      take (k + 1) (set (used rows lens) k (getD (without gap (used rows₀ lens₀)) k [])) ≡ take (k + 1) (without gap (used rows₀ lens₀))
   gap-done l =
       let rows16 : length (used rows₀ lens₀) ≡ 16 = used-rows rows₀ lens₀ (t .tall) (t .sized) in
       rw (add-one k)
@@ -92,6 +96,7 @@ module _ (rows₀ : List (List ℕ)) (lens₀ : List ℕ) (count gap : ℕ) (row
         | no n ↦ omega (arith, getD-set-other lens k m (getD lens (k + 1) 0) 0 n, g .fit m h)
       ]
 
+  -- one row moves up
   pub gap-turn : k + 1 < count → Gap rows₀ lens₀ count gap (set rows k (getD rows (k + 1) [])) (set lens k (getD lens (k + 1) 0)) (k + 1)
   gap-turn l =
       record {
@@ -107,6 +112,7 @@ module _ (rows₀ : List (List ℕ)) (lens₀ : List ℕ) (count gap : ℕ) (row
             ∙ (drop-set-lt (k + 1) (used rows lens) k (getD (without gap (used rows₀ lens₀)) k []) (omega arith) ∙ later (used rows lens) (used rows₀ lens₀) k (g .rest));
       }
 
+  -- at the end the rows are those without the gap
   pub gap-end : count - 1 ≤ k → rowsOf rows lens (count - 1) ≡ without gap (rowsOf rows₀ lens₀ count)
   unfolding rowsOf
   gap-end l =
@@ -114,6 +120,7 @@ module _ (rows₀ : List (List ℕ)) (lens₀ : List ℕ) (count gap : ℕ) (row
       let more : count ≡ suc k = omega (arith, g .far) in
       rw last (rw more (g .done ∙ sym (without-take gap k (used rows₀ lens₀) (g .from))))
 
+  -- and they are a table of reads
   pub gap-table : count - 1 ≤ k → TableHolds rows lens (count - 1)
   gap-table l =
       record {
@@ -132,12 +139,16 @@ pub record Built (rows : List (List ℕ)) (lens : List ℕ) (i j n : ℕ) (row :
   pub far : k ≤ getD lens j 0
   pub read : take at row ++ drop k (rowAt rows lens j) ≡ joinOf rows lens i j n
 
-pub built-start : (rows : List (List ℕ)) (lens : List ℕ) (i j n : ℕ) → RowHolds rows lens i → n ≤ getD lens j 0 → Built rows lens i j n (getD rows i []) (getD lens i 0) n
+-- the first read is copied
+pub built-start : (rows : List (List ℕ)) (lens : List ℕ) (i j n : ℕ) → RowHolds rows lens i → n ≤ getD lens j 0 →
+    Built rows lens i j n (getD rows i []) (getD lens i 0) n
 unfolding joinOf rowAt
 built-start rows lens i j n g l = record { wide = g .wide; even = refl; far = l; read = refl }
 
 module _ (rows : List (List ℕ)) (lens : List ℕ) (i j n : ℕ) (row : List ℕ) (at k : ℕ) (b : Built rows lens i j n row at k) (g : RowHolds rows lens j) where
-  pub built-turn : k < getD lens j 0 → getD lens i 0 + getD lens j 0 ≤ 64 + n → Built rows lens i j n (set row at (getD (getD rows j []) k 0)) (at + 1) (k + 1)
+  -- one more number of the second read is copied
+  pub built-turn : k < getD lens j 0 → getD lens i 0 + getD lens j 0 ≤ 64 + n →
+      Built rows lens i j n (set row at (getD (getD rows j []) k 0)) (at + 1) (k + 1)
   built-turn l m =
       record {
         wide = length-set row at (getD (getD rows j []) k 0) ∙ b .wide;
@@ -151,6 +162,7 @@ module _ (rows : List (List ℕ)) (lens : List ℕ) (i j n : ℕ) (row : List �
             ∙ (ap (λ (q : List ℕ). take at row ++ q) (sym (drop-cons (rowAt rows lens j) k 0 (omega (arith, g .long)))) ∙ b .read))));
       }
 
+  -- all of it is copied: the row holds the joined read
   pub built-end : getD lens j 0 ≤ k → take (getD lens i 0 + getD lens j 0 - n) row ≡ joinOf rows lens i j n
   built-end l =
       let here : getD lens i 0 + getD lens j 0 - n ≡ at = omega (arith, b .even, b .far) in
@@ -160,6 +172,7 @@ module _ (rows : List (List ℕ)) (lens : List ℕ) (i j n : ℕ) (row : List �
 
 -- a store of a read into a row of the table
 module _ (rows : List (List ℕ)) (lens : List ℕ) (count low : ℕ) (row : List ℕ) (size : ℕ) (t : TableHolds rows lens count) (l : low < count) where
+  -- the reads after the store
   pub put-reads : rowsOf (set rows low row) (set lens low size) count ≡ set (rowsOf rows lens count) low (take size row)
   unfolding rowsOf
   put-reads = ap (take count) (used-set rows lens low row size) ∙ take-set-lt count (used rows lens) low (take size row) l
@@ -171,6 +184,7 @@ module _ (rows : List (List ℕ)) (lens : List ℕ) (count low : ℕ) (row : Lis
         | no n ↦ omega (arith, getD-set-other lens low m size 0 n, t .fit m h)
       ]
 
+  -- and they are a table of reads
   pub put-table : length row ≡ 64 → size ≤ 64 → ReadHolds (take size row) → TableHolds (set rows low row) (set lens low size) count
   put-table w s r =
       record {

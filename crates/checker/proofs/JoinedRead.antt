@@ -65,7 +65,8 @@ pub record Joins (rows : List (List ℕ)) (lens : List ℕ) (count : ℕ) (m : M
   pub read : ReadHolds (joinOf rows lens (m .i) (m .j) (m .length))
 
 module _ (rows : List (List ℕ)) (lens : List ℕ) (count : ℕ) (t : TableHolds rows lens count) (m : Meeting) where
-  joins-at : m .i < count → m .j < count → m .length ≡ overlap (rowAt rows lens (m .i)) (rowAt rows lens (m .j)) → 1 ≤ m .length → Joins rows lens count m
+  joins-at : m .i < count → m .j < count → m .length ≡ overlap (rowAt rows lens (m .i)) (rowAt rows lens (m .j)) → 1 ≤ m .length →
+      Joins rows lens count m
   unfolding joinOf
   joins-at li lj e l =
       let a = rowAt rows lens (m .i) in
@@ -101,6 +102,10 @@ module _ (rows : List (List ℕ)) (lens : List ℕ) (count : ℕ) (t : TableHold
     join-read =
         e ∙ sym (ap₂ (λ (a b : List ℕ). a ++ drop (m .length) b) (table-get rows lens count t (m .i) (f .i-below)) (table-get rows lens count t (m .j) (f .j-below)))
 
+    -- the joined read is a read
+    pub join-holds : ReadHolds read
+    join-holds = subst ReadHolds (sym e) (f .read)
+
     -- "Replace both by the joined read, in the lower of the two places."
     pub join-before : m .i < m .j → without (m .j) (set (rowsOf rows lens count) (m .i) read) ≡ joinAt m (rowsOf rows lens count)
     unfolding joinAt
@@ -109,6 +114,7 @@ module _ (rows : List (List ℕ)) (lens : List ℕ) (count : ℕ) (t : TableHold
         let low : min (m .i) (m .j) ≡ m .i = omega arith in
         rw (high, low, join-read)
 
+    -- the same where the second of the pair stands lower
     pub join-after : m .j ≤ m .i → without (m .i) (set (rowsOf rows lens count) (m .j) read) ≡ joinAt m (rowsOf rows lens count)
     unfolding joinAt
     join-after l =

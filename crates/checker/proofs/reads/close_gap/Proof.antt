@@ -54,7 +54,13 @@ sub-result : tie.Need-sub-result Inv-loop μ-loop
 sub-result c = search needs
 
 returns : tie.Need-returns Inv-loop μ-loop
-returns c = (record { table = gap-table _ _ _ _ _ _ _ (search needs) (c .before .loop .inv) (search needs); reads = gap-end _ _ _ _ _ _ _ (search needs) (c .before .loop .inv) (search needs) }, search needs)
+returns c = (
+  record {
+    table = gap-table _ _ _ _ _ _ _ (search needs) (c .before .loop .inv) (search needs);
+    reads = gap-end _ _ _ _ _ _ _ (search needs) (c .before .loop .inv) (search needs);
+  },
+  search needs,
+)
 
 pub close-gap-spec : {M : Type 1} → statement M
 close-gap-spec =

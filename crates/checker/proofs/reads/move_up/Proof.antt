@@ -61,10 +61,16 @@ loop-less-2 : tie.Need-loop-less-2 Inv-loop μ-loop
 loop-less-2 c = search needs
 
 loop-again-2 : tie.Need-loop-again-2 Inv-loop μ-loop
-loop-again-2 c = moved-keep _ _ _ _ _ _ _ (search needs) (c .before .before .before .before .before .loop .inv) (search needs) (sym (c .before .before .if1 .left) ∙ c .before .before .before .before .before .before .pre .1 _ (search needs))
+loop-again-2 c =
+    moved-keep _ _ _ _ _ _ _ (search needs) (c .before .before .before .before .before .loop .inv) (search needs)
+    (sym (c .before .before .if1 .left) ∙ c .before .before .before .before .before .before .pre .1 _ (search needs))
 
 returns : tie.Need-returns Inv-loop μ-loop
-returns c = record { table = moved-table _ _ _ _ _ _ _ (search needs) (c .before .loop .inv) (search needs); reads = moved-end _ _ _ _ _ _ _ (search needs) (c .before .loop .inv) (search needs) }
+returns c =
+    record {
+      table = moved-table _ _ _ _ _ _ _ (search needs) (c .before .loop .inv) (search needs);
+      reads = moved-end _ _ _ _ _ _ _ (search needs) (c .before .loop .inv) (search needs);
+    }
 
 pub move-up-spec : {M : Type 1} → statement M
 move-up-spec =

@@ -85,7 +85,9 @@ sub-result : tie.Need-sub-result
 sub-result c = omega (arith, c .before .before .before .place .ensures .within)
 
 returns-5 : tie.Need-returns-5
-returns-5 c = meets-found _ _ _ _ (search needs) (search needs) _ (c .before .before .before .place .ensures) (search needs) (search needs) (omega (arith, c .before .before .before .place .ensures .within)) (sym (c .if5 .taken) ∙ c .before .same-run .ensures)
+returns-5 c =
+    meets-found _ _ _ _ (search needs) (search needs) _ (c .before .before .before .place .ensures)
+    (search needs) (search needs) (omega (arith, c .before .before .before .place .ensures .within)) (sym (c .if5 .taken) ∙ c .before .same-run .ensures)
 
 returns-6 : tie.Need-returns-6
 returns-6 c = meets-none _ _ _ _ (search needs) (search needs) _ (c .before .before .before .place .ensures) (sym (c .if5 .left) ∙ c .before .same-run .ensures)
