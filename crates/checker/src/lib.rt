@@ -2,6 +2,7 @@
 // The definitions that the contracts cite are in specs/, in document 01's words and order.
 pub mod bytes;
 pub mod reader;
+pub mod reads;
 
 ghost use mathlib.Core.Path.{_≡_};
 ghost use Rattle.checker.specs.GraphFaults.{refusal};
