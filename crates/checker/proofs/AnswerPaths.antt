@@ -288,9 +288,9 @@ module _ {s t vl al : List ℕ} {met : List Bool} {p lp copies cost left at : �
           within = omega (arith, done .head, price-low (pathWeight t at) (openingPrice s) low, inv .within);
           long = (done .grown .vertices-long, done .grown .arcs-long, done .marked .long);
           decide = inv .decide ∙ verdict-split s t left at (part t p lp) copies more ∙ simp (eq-eqb _ _ right);
-          vertices = λ v l. rw (done .grown .vertices v l, add-assoc) (rw split at (inv .vertices v l));
+          vertices = λ v l. ap (λ x. x + total (vert v) (pathsFrom t (left - 1) (pathEnd t at))) (done .grown .vertices v l) ∙ add-assoc _ _ _ ∙ (rw split at (inv .vertices v l));
           vertices-low = λ v l. omega (arith, done .grown .vertices v l, few (vert v), inv .vertices-low v l);
-          arcs = λ k l. rw (done .grown .arcs k l, add-assoc) (rw split at (inv .arcs k l));
+          arcs = λ k l. ap (λ x. x + total (arcItem s k) (pathsFrom t (left - 1) (pathEnd t at))) (done .grown .arcs k l) ∙ add-assoc _ _ _ ∙ (rw split at (inv .arcs k l));
           arcs-low = λ k l. omega (arith, done .grown .arcs k l, few (arcItem s k), inv .arcs-low k l);
           reads = λ r l. rw (done .marked .met r l, or-assoc) (rw split at (inv .reads r l));
           costs = price-turn;

@@ -49,19 +49,19 @@ returns-2 : tie.Need-returns-2 Inv-loop μ-loop
 returns-2 c = walk-fails (walk-nowhere (c .before .before .before .before .before .before .before .loop .inv .0) (c .before .before .before .before .before .before .before .before .before .before .before .before .pre .1 .1) (c .before .before .before .before .before .before .loop-test .taken) (c .before .before .before .before .wide2 .ensures .0) (sym (c .enum-told .given .1) ∙ c .before .before .find-arc .ensures))
 
 mul-arc-totals : tie.Need-mul-arc-totals Inv-loop μ-loop
-mul-arc-totals c = omega (arith, (found-arc _ _ _ _ (sym (c .before .found .given .1) ∙ c .before .before .before .find-arc .ensures) .inside), (c .before .before .before .before .before .before .before .before .before .before .before .before .before .pre .0 .0 .arcs) .header .few-arcs)
+mul-arc-totals c = omega (arith, (found-arc _ _ _ (c .before .before .before .before .before .before .before .before .before .before .before .before .before .pre .0 .0 .arcs) _ (sym (c .before .found .given .1) ∙ c .before .before .before .find-arc .ensures) .inside), (c .before .before .before .before .before .before .before .before .before .before .before .before .before .pre .0 .0 .arcs) .header .few-arcs)
 
 element-copy-out-arc-totals : tie.Need-element-copy-out-arc-totals Inv-loop μ-loop
-element-copy-out-arc-totals c = omega (arith, (found-arc _ _ _ _ (sym (c .before .found .given .1) ∙ c .before .before .before .find-arc .ensures) .inside), (c .before .before .before .before .before .before .before .before .before .before .before .before .before .pre .0 .0 .arcs) .header .few-arcs)
+element-copy-out-arc-totals c = omega (arith, (found-arc _ _ _ (c .before .before .before .before .before .before .before .before .before .before .before .before .before .pre .0 .0 .arcs) _ (sym (c .before .found .given .1) ∙ c .before .before .before .find-arc .ensures) .inside), (c .before .before .before .before .before .before .before .before .before .before .before .before .before .pre .0 .0 .arcs) .header .few-arcs)
 
 add-arc-totals : tie.Need-add-arc-totals Inv-loop μ-loop
-add-arc-totals c = omega (arith, arc-room (c .before .before .before .before .before .before .before .before .before .loop .inv .0) (c .before .before .before .before .before .before .before .before .before .before .before .before .before .before .pre .1 .1) (c .before .before .before .before .before .before .before .before .before .before .before .before .before .before .pre .1 .0) (c .before .before .before .before .before .before .before .before .before .before .before .before .before .before .pre .1 .2) _ (found-arc _ _ _ _ (sym (c .before .before .found .given .1) ∙ c .before .before .before .before .find-arc .ensures) .inside), (c .before .before .before .before .before .before .before .before .before .before .before .before .before .before .pre .1 .2) .low-weight)
+add-arc-totals c = omega (arith, arc-room (c .before .before .before .before .before .before .before .before .before .loop .inv .0) (c .before .before .before .before .before .before .before .before .before .before .before .before .before .before .pre .1 .1) (c .before .before .before .before .before .before .before .before .before .before .before .before .before .before .pre .1 .0) (c .before .before .before .before .before .before .before .before .before .before .before .before .before .before .pre .1 .2) _ (found-arc _ _ _ (c .before .before .before .before .before .before .before .before .before .before .before .before .before .before .pre .0 .0 .arcs) _ (sym (c .before .before .found .given .1) ∙ c .before .before .before .before .find-arc .ensures) .inside), (c .before .before .before .before .before .before .before .before .before .before .before .before .before .before .pre .1 .2) .low-weight)
 
 mul-arc-totals-2 : tie.Need-mul-arc-totals-2 Inv-loop μ-loop
-mul-arc-totals-2 c = omega (arith, (found-arc _ _ _ _ (sym (c .before .before .found .given .1) ∙ c .before .before .before .before .find-arc .ensures) .inside), (c .before .before .before .before .before .before .before .before .before .before .before .before .before .before .pre .0 .0 .arcs) .header .few-arcs)
+mul-arc-totals-2 c = omega (arith, (found-arc _ _ _ (c .before .before .before .before .before .before .before .before .before .before .before .before .before .before .pre .0 .0 .arcs) _ (sym (c .before .before .found .given .1) ∙ c .before .before .before .before .find-arc .ensures) .inside), (c .before .before .before .before .before .before .before .before .before .before .before .before .before .before .pre .0 .0 .arcs) .header .few-arcs)
 
 element-write-arc-totals : tie.Need-element-write-arc-totals Inv-loop μ-loop
-element-write-arc-totals c = omega (arith, (found-arc _ _ _ _ (sym (c .before .before .found .given .1) ∙ c .before .before .before .before .find-arc .ensures) .inside), (c .before .before .before .before .before .before .before .before .before .before .before .before .before .before .pre .0 .0 .arcs) .header .few-arcs)
+element-write-arc-totals c = omega (arith, (found-arc _ _ _ (c .before .before .before .before .before .before .before .before .before .before .before .before .before .before .pre .0 .0 .arcs) _ (sym (c .before .before .found .given .1) ∙ c .before .before .before .before .find-arc .ensures) .inside), (c .before .before .before .before .before .before .before .before .before .before .before .before .before .before .pre .0 .0 .arcs) .header .few-arcs)
 
 mul-vertex-totals : tie.Need-mul-vertex-totals Inv-loop μ-loop
 mul-vertex-totals c = omega arith
@@ -79,7 +79,7 @@ element-write-vertex-totals : tie.Need-element-write-vertex-totals Inv-loop μ-l
 element-write-vertex-totals c = omega (arith, (c .before .before .before .before .before .before .before .before .before .before .before .before .before .before .before .pre .0 .0 .arcs) .header .few-vertices)
 
 cost-of-requires : tie.Need-cost-of-requires Inv-loop μ-loop
-cost-of-requires c κs = (c .before .before .before .before .before .before .before .before .before .before .before .before .before .before .before .pre .0 .0, search needs, (found-arc _ _ _ _ (sym (c .before .before .before .found .given .1) ∙ c .before .before .before .before .before .find-arc .ensures) .inside))
+cost-of-requires c κs = (c .before .before .before .before .before .before .before .before .before .before .before .before .before .before .before .pre .0 .0, search needs, (found-arc _ _ _ (c .before .before .before .before .before .before .before .before .before .before .before .before .before .before .before .pre .0 .0 .arcs) _ (sym (c .before .before .before .found .given .1) ∙ c .before .before .before .before .before .find-arc .ensures) .inside))
 
 add-cost : tie.Need-add-cost Inv-loop μ-loop
 add-cost c = omega (arith, (c .before .before .before .before .before .before .before .before .before .before .before .loop .inv .0) .within, c .cost-of .ensures .1, (c .before .before .before .before .before .before .before .before .before .before .before .before .before .before .before .before .pre .1 .0))
