@@ -1,25 +1,25 @@
 -- What reading an answer form gives: a law for each way through the functions that test its header, marks and paths.
-use Prim.Native.Nat.{ℕ, zero, suc, pred, _+_, _-_, _*_, _<_, _≤_}
+use Prim.Native.Nat.{ℕ, zero, suc, _+_, _-_, _*_, _<_, _≤_}
 use native.Mathlib.Nat.{add-zero, sub-zero}
-use native.Mathlib.Numerals.{add-one, sub-one}
+use native.Mathlib.Numerals.{add-one}
 use native.Mathlib.Decide.{decLt}
 use native.Mathlib.Omega.{arith}
 use mathlib.Core.Path.{_≡_, refl, sym, ap, _∙_}
 use mathlib.Core.List.{List, [], _∷_}
 use mathlib.Core.Bool.{Bool, true, false, cond, not, _&&_, _||_}
-use lib.Dec.{T, ltb, leb, eqb, leb·zero, leb·suc-zero, leb·suc-suc}
-use lib.ListN.{length, getD, take, drop}
+use lib.Dec.{ltb, leb, eqb, leb·zero, leb·suc-zero, leb·suc-suc}
+use lib.ListN.{length}
 use lib.Seq.{drop-cons}
-use lib.IntN.{ℤ, pos, negsuc, negℤ, subℕ}
+use lib.IntN.{pos, negℤ, subℕ}
 use lib.Signed.{leZ}
 use borrow.Author.Tests.{lt-ltb, le-ltb, le-leb, lt-leb, eq-eqb, ne-eqb}
 use Rattle.checker.specs.declared.Verdict.{Verdict}
 use Rattle.checker.specs.Bytes.{byte, be32, part}
 use Rattle.checker.specs.Limits.{maxPaths, markLimit}
 use Rattle.checker.specs.GraphForm.{vertexCount}
-use Rattle.checker.specs.GraphFaults.{refusal, nothingRefused, orElse}
-use Rattle.checker.specs.AnswerForm.{answerLengthWord, answerVersion, pathCount, firstPathAt, signed32}
-use Rattle.checker.specs.AnswerFaults.{answerHeaderVerdict, markFault, marksVerdict, listBefore}
+use Rattle.checker.specs.GraphFaults.{refusal, nothingRefused, orElse, then}
+use Rattle.checker.specs.AnswerForm.{answerLengthWord, answerVersion, pathCount, firstPathAt, signed32, pathWeight, pathVertices, pathEnd}
+use Rattle.checker.specs.AnswerFaults.{answerHeaderVerdict, markFault, marksVerdict, listBefore, pathFault, pathsVerdict}
 
 module _ (s t : List ℕ) where
   pub header-short : length t < firstPathAt (vertexCount s) → refusal 11 0 ≡ answerHeaderVerdict s t nothingRefused
@@ -212,3 +212,42 @@ module _ {t : List ℕ} {a la b lb i : ℕ} (inv : BothLeft t a la b lb i) where
         where
           none′ : lb - i ≡ 0
           none′ = omega arith
+
+-- A stage's verdict with what comes after it is the verdict of the stage alone, and then what comes after: so the stages compose.
+or-else-then : (fault at : ℕ) (x after : Verdict) → orElse fault at (then x after) ≡ then (orElse fault at x) after
+unfolding then
+or-else-then fault at x after = go (eqb fault 0) refl
+  where
+    go : (b : Bool) → eqb fault 0 ≡ b → orElse fault at (then x after) ≡ then (orElse fault at x) after
+    go true e = rw e
+    go false e = rw (e, e)
+
+pub header-then : (s t : List ℕ) (after : Verdict) → answerHeaderVerdict s t after ≡ then (answerHeaderVerdict s t nothingRefused) after
+unfolding answerHeaderVerdict then
+header-then s t after =
+    go (ltb (length t) (firstPathAt (vertexCount s)) || not (eqb (answerLengthWord t) (length t))) (not (eqb (answerVersion t) 1))
+    (ltb maxPaths (pathCount t))
+  where
+    go : (b₁ b₂ b₃ : Bool) → cond b₁ (refusal 11 0) (cond b₂ (refusal 12 4) (cond b₃ (refusal 13 5) after)) ≡ then (cond b₁ (refusal 11 0) (cond b₂ (refusal 12 4) (cond b₃ (refusal 13 5) nothingRefused))) after
+    go true b₂ b₃ = refl
+    go false true b₃ = refl
+    go false false true = refl
+    go false false false = refl
+
+pub marks-then : (t : List ℕ) (count at : ℕ) (after : Verdict) → marksVerdict t count at after ≡ then (marksVerdict t count at nothingRefused) after
+unfolding marksVerdict then
+marks-then t zero at after = refl
+marks-then t (suc count) at after =
+    ap (orElse (markFault t at) at) (marks-then t count (at + 4) after) ∙ or-else-then (markFault t at) at _ after
+
+pub paths-then : (s t : List ℕ) (count at : ℕ) (before : List ℕ) (copies : ℕ) (after : Verdict) → pathsVerdict s t count at before copies after ≡ then (pathsVerdict s t count at before copies nothingRefused) after
+unfolding pathsVerdict then
+paths-then s t zero at before copies after = go (ltb at (length t))
+  where
+    go : (b : Bool) → cond b (refusal 15 at) after ≡ then (cond b (refusal 15 at) nothingRefused) after
+    go true = refl
+    go false = refl
+paths-then s t (suc count) at before copies after =
+    ap (orElse (pathFault s t at before copies) at)
+    (paths-then s t count (pathEnd t at) (pathVertices t at) (copies + pathWeight t at) after)
+    ∙ or-else-then (pathFault s t at before copies) at _ after

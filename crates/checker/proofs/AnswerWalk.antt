@@ -1,34 +1,33 @@
 -- Walking along a path of an answer: which arc is found, what one step adds to the totals, and the laws of the loop that walks.
 use Prim.Native.Nat.{ℕ, zero, suc, _+_, _-_, _*_, _/_, _%_, _<_, _≤_}
-use native.Mathlib.Nat.{le-refl, zero-add, add-zero, sub-zero, add-suc, mul-one, mul-zero, mul-add, mul-le-mul-left}
-use native.Mathlib.Numerals.{add-one}
+use native.Mathlib.Nat.{le-refl, zero-add, add-zero, sub-zero, mul-one, mul-zero, mul-add, mul-le-mul-left}
 use native.Mathlib.Decide.{decLt, ℕ-discrete}
 use native.Mathlib.Omega.{arith}
 use mathlib.Core.Path.{_≡_, refl, sym, ap, subst, _∙_}
 use mathlib.Core.List.{List, [], _∷_}
-use mathlib.Core.Bool.{Bool, true, false, cond, _&&_, _||_}
+use mathlib.Core.Bool.{Bool, true, false, cond, _&&_}
 use mathlib.Core.Logic.{⊎-elim}
-use lib.Dec.{ltb, eqb}
+use lib.Dec.{eqb}
 use lib.ListN.{length, getD, set, length-set}
 use lib.Seq.{getD-set-same, getD-set-other}
 use lib.IntN.{ℤ, pos, _+ℤ_, +ℤ-assoc, +ℤ-idl, +ℤ-idr}
 use borrow.Author.Tests.{lt-ltb, le-ltb, eq-eqb, ne-eqb, eqb-true}
 use Rattle.mathematics.specs.Price.{whole}
-use Rattle.mathematics.specs.Lists.{lastOf}
-use Rattle.mathematics.specs.Graph.{Vertex, noVertex, Arc, joins, hasArc, linked, isStart, isEnd, isPath}
+use Rattle.mathematics.specs.Graph.{Vertex, noVertex, Arc, joins, hasArc, isStart, isEnd, isPath}
 use Rattle.mathematics.specs.Cover.{Item, vert, arc, sameItem, oneIf, countOf, trail, costOf, arcCosts}
-use Rattle.checker.specs.declared.Found.{Found}
 use Rattle.checker.specs.declared.Found.the-variants.{At, Missing}
 use Rattle.checker.specs.Bytes.{byte, be32, part, tabulate}
-use Rattle.checker.specs.Limits.{maxVertices, maxArcs, maxCost, maxWeight, maxPathLength}
+use Rattle.checker.specs.Limits.{maxVertices, maxArcs, maxCost, maxWeight}
 use Rattle.checker.specs.GraphForm.{vertexCount, arcCount, flags, arcAt, arcTail, arcHead, arcCost}
 use Rattle.checker.specs.GraphOf.{graphOf, vertexOf, arcOf, arcsOf}
 use Rattle.checker.specs.GraphFaults.{allBelow}
 use Rattle.checker.specs.GraphReads.{ArcsRight, Reads}
-use Rattle.checker.specs.ArcTable.{numberFrom, arcNumber, ArcTable}
+use Rattle.checker.specs.ArcTable.{numberFrom, arcNumber}
 use Rattle.checker.specs.Tallies.{arcItem, onward, goesOnTo, Room, Grown, Walked, PathWalked}
 use Rattle.checker.proofs.AnswerLaws.{part-cons, part-none}
 use Rattle.checker.proofs.AnswerReads.{part-length}
+use Rattle.checker.proofs.GraphFacts.{ends-differ}
+use Rattle.checker.proofs.Lookup.{found-iff-goes}
 use Rattle.checker.proofs.WalkLaws.{isAt, found-is}
 
 -- entry i of a tabulated list
@@ -48,13 +47,6 @@ module _ (s : List ℕ) (v : ℕ) (inside : v < vertexCount s) where
   unfolding graphOf
   end-is = ap (λ (x : Vertex). x .end) (getD-tabulate (vertexOf s) (vertexCount s) 0 v noVertex inside) ∙ rw zero-add
 
-both-true : (x y : Bool) → (x && y) ≡ true → (x ≡ true) × (y ≡ true)
-both-true true y e = (refl, e)
-both-true false y e = (e, absurd (false-not-true e))
-  where
-    false-not-true : false ≡ true → ⊥
-    false-not-true q = let z : _≡_ {A = ℕ} 0 1 = cc in omega arith
-
 -- arc k is the one from u to v
 pub record TheArc (s : List ℕ) (u v k : ℕ) : Type 0 where
   pub inside : k < arcCount s
@@ -64,82 +56,36 @@ pub record TheArc (s : List ℕ) (u v k : ℕ) : Type 0 where
   pub has : hasArc (arcsOf s) u v ≡ true
 
 module _ (s : List ℕ) (u v : ℕ) where
-  -- the same among count arcs from arc i on
-  record FoundFrom (count i k : ℕ) : Type 0 where
-    inside : k < i + count
-    tail : arcTail s (arcAt s k) ≡ u
-    head : arcHead s (arcAt s k) ≡ v
-    cost : costOf whole (tabulate (arcOf s) count i) u v ≡ pos (arcCost s (arcAt s k))
-    has : hasArc (tabulate (arcOf s) count i) u v ≡ true
+  -- the cost of the first arc from u to v, among count arcs from arc i on
+  cost-from : (count i k : ℕ) → numberFrom (tabulate (arcOf s) count i) u v i ≡ At k → costOf whole (tabulate (arcOf s) count i) u v ≡ pos (arcCost s (arcAt s k))
+  unfolding numberFrom
+  cost-from zero i k e = absurd (let z : _≡_ {A = ℕ} 0 1 = cc in omega arith)
+  cost-from (suc count) i k e = by (joins (arcOf s i) u v) (λ f. cost-from count (suc i) k f) e
+    where
+      by : (b : Bool) → (numberFrom (tabulate (arcOf s) count (suc i)) u v (suc i) ≡ At k → costOf whole (tabulate (arcOf s) count (suc i)) u v ≡ pos (arcCost s (arcAt s k))) → cond b (At i) (numberFrom (tabulate (arcOf s) count (suc i)) u v (suc i)) ≡ At k → cond b (pos (arcCost s (arcAt s i))) (costOf whole (tabulate (arcOf s) count (suc i)) u v) ≡ pos (arcCost s (arcAt s k))
+      by true more e =
+          let same : i ≡ k = cc in
+          rw same
+      by false more e = more e
 
-  found-here : (count i k : ℕ) → joins (arcOf s i) u v ≡ true → At k ≡ At i → FoundFrom (suc count) i k
-  found-here count i k j e =
-      let same : k ≡ i = cc in
-      let both : (eqb (arcTail s (arcAt s i)) u ≡ true) × (eqb (arcHead s (arcAt s i)) v ≡ true) = both-true _ _ j in
-      rw same
-      (record {
-        inside = omega arith;
-        tail = eqb-true _ _ (both .0);
-        head = eqb-true _ _ (both .1);
-        cost = rw j;
-        has = rw j;
-      })
-
-  found-later : (count i k : ℕ) → joins (arcOf s i) u v ≡ false → FoundFrom count (suc i) k → FoundFrom (suc count) i k
-  found-later count i k j f =
+  pub found-arc : ArcsRight s → (k : ℕ) → At k ≡ arcNumber (arcsOf s) u v → TheArc s u v k
+  found-arc right k e =
+      let goes = found-iff-goes s u v right k .0 (sym e) in
       record {
-        inside = omega (arith, f .inside);
-        tail = f .tail;
-        head = f .head;
-        cost = rw j (f .cost);
-        has = rw j (f .has);
+        inside = goes .0;
+        tail = goes .1;
+        head = goes .2;
+        cost = cost-from (arcCount s) 0 k (sym e);
+        has = sym (found-is (arcsOf s) u v 0) ∙ ap isAt (sym e);
       }
 
-  found-from : (count i k : ℕ) → At k ≡ numberFrom (tabulate (arcOf s) count i) u v i → FoundFrom count i k
-  unfolding numberFrom
-  found-from zero i k e = absurd (let z : _≡_ {A = ℕ} 0 1 = cc in omega arith)
-  found-from (suc count) i k e = go (joins (arcOf s i) u v) refl (λ f. found-from count (suc i) k f) e
-    where
-      go : (b : Bool) → joins (arcOf s i) u v ≡ b → (At k ≡ numberFrom (tabulate (arcOf s) count (suc i)) u v (suc i) → FoundFrom count (suc i) k) → At k ≡ cond b (At i) (numberFrom (tabulate (arcOf s) count (suc i)) u v (suc i)) → FoundFrom (suc count) i k
-      go true j later e = found-here count i k j e
-      go false j later e = found-later count i k j (later e)
-
-  pub found-arc : (k : ℕ) → At k ≡ arcNumber (arcsOf s) u v → TheArc s u v k
-  found-arc k e =
-      let f = found-from (arcCount s) 0 k e in
-      record { inside = omega (arith, f .inside); tail = f .tail; head = f .head; cost = f .cost; has = f .has }
-
--- what rises from each to the next rises from each to every later one
-strictly : (f : ℕ → ℕ) (m : ℕ) → ((a : ℕ) → suc a < m → f a < f (suc a)) → (j k : ℕ) → j < k → k < m → f j < f k
-strictly f m step j zero l h = absurd (omega arith)
-strictly f m step j (suc k) l h = go (decLt j k) (λ q. strictly f m step j k q (omega arith))
-  where
-    go : Dec (j < k) → (j < k → f j < f k) → f j < f (suc k)
-    go (yes q) before = omega (arith, before q, step k h)
-    go (no q) before =
-        let same : k ≡ j = omega arith in
-        subst (λ x. f x < f (suc k)) same (step k h)
-
--- Arcs ascend strictly, so no two have the same ends.
 module _ (s : List ℕ) (right : ArcsRight s) where
-  abbrev key : ℕ → ℕ
-  key a = arcTail s (arcAt s a) * 256 + arcHead s (arcAt s a)
-
-  key-step : (a : ℕ) → suc a < arcCount s → key a < key (suc a)
-  key-step a h =
-      let low = right .each a (omega arith) .inside in
-      let few = right .header .few-vertices in
-      ⊎-elim (λ l. omega arith) (λ e. omega (arith, e .0, e .1)) (right .ascending a h)
-
-  key-less : (j k : ℕ) → j < k → k < arcCount s → key j < key k
-  key-less = strictly key (arcCount s) key-step
-
-  pub arcs-once : (j k : ℕ) → j < arcCount s → k < arcCount s → arcTail s (arcAt s j) ≡ arcTail s (arcAt s k) → arcHead s (arcAt s j) ≡ arcHead s (arcAt s k) → j ≡ k
+  arcs-once : (j k : ℕ) → j < arcCount s → k < arcCount s → arcTail s (arcAt s j) ≡ arcTail s (arcAt s k) → arcHead s (arcAt s j) ≡ arcHead s (arcAt s k) → j ≡ k
   arcs-once j k hj hk t h = go (decLt j k) (decLt k j)
     where
       go : Dec (j < k) → Dec (k < j) → j ≡ k
-      go (yes l) e = absurd (omega (arith, key-less j k l hk))
-      go (no l) (yes m) = absurd (omega (arith, key-less k j m hj))
+      go (yes l) e = absurd (ends-differ s right j k l hk t h)
+      go (no l) (yes m) = absurd (ends-differ s right k j m hj (sym t) (sym h))
       go (no l) (no m) = omega arith
 
   -- of the arcs only arc k goes from u to v
@@ -165,7 +111,7 @@ grow l i w x c h = go (ℕ-discrete x i)
     go (no e) = rw (getD-set-other l i x (getD l i 0 + w) 0 e, ne-eqb x i e, zero-add)
 
 -- an item is among the items at most as often as there are items
-pub count-few : (i : Item) (js : List Item) → countOf i js ≤ length js
+count-few : (i : Item) (js : List Item) → countOf i js ≤ length js
 count-few i [] = le-refl 0
 count-few i (j ∷ js) = go (sameItem i j) (count-few i js)
   where
@@ -270,7 +216,7 @@ module _ {s t : List ℕ} {b lb from weight : ℕ} {vb vt ab at : List ℕ} {u c
 
     module _ {k : ℕ} (right : ArcsRight s) (found : At k ≡ arcNumber (arcsOf s) u v) (inside : v < vertexCount s) where
       the : TheArc s u v k
-      the = found-arc s u v k found
+      the = found-arc s u v right k found
 
       vertex-turn : (x : ℕ) → x < maxVertices → getD (set vt v (getD vt v 0 + weight)) x 0 + weight * countOf (vert x) (onward v (part t (b + (j + 1)) (lb - (j + 1)))) ≡ getD vb x 0 + weight * countOf (vert x) (onward from (part t b lb))
       vertex-turn x l =
@@ -324,6 +270,13 @@ module _ {s t : List ℕ} {b lb from weight : ℕ} {vb vt ab at : List ℕ} {u c
 pub trail-onward : (u : ℕ) (q : List ℕ) → trail (u ∷ q) ≡ vert u ∷ onward u q
 trail-onward u [] = refl
 trail-onward u (v ∷ q) = ap (λ (is : List Item). vert u ∷ arc u v ∷ is) (trail-onward v q)
+
+-- a path passes at most twice as many vertices and arcs as it has vertices
+pub through-few : (i : Item) (p : List ℕ) → countOf i (trail p) ≤ 2 * length p
+through-few i [] = le-refl 0
+through-few i (u ∷ q) =
+    let e : length (trail (u ∷ q)) ≡ suc (length (onward u q)) = ap length (trail-onward u q) in
+    omega (arith, e, count-few i (trail (u ∷ q)), length-onward u q)
 
 module _ (s t : List ℕ) (b lb weight : ℕ) (vb ab : List ℕ) (some : 1 ≤ lb) (fits : b + lb ≤ length t) (u : ℕ) (read : u ≡ byte t b) where
   opened : part t b lb ≡ u ∷ part t (b + 1) (lb - 1)

@@ -21,6 +21,7 @@ pub mod ThenLaws
 pub mod GraphReads
 pub mod GraphFacts
 pub mod Lookup
+-- The laws of the table of reads.
 pub mod TableRows
 pub mod DropLaws
 pub mod LongestLaws

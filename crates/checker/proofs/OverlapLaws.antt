@@ -1,20 +1,21 @@
 -- The overlap of two reads that rise, from the one place where the second read's first number stands in the first: a law for each answer of the code.
-use Prim.Native.Nat.{ℕ, zero, suc, _+_, _-_, _≤_, _<_}
+use Prim.Native.Nat.{ℕ, zero, suc, _+_, _-_, _≤_, _<_, min}
 use native.Mathlib.Omega.{arith}
-use native.Mathlib.Nat.{add-zero}
+use native.Mathlib.Nat.{add-zero, eq-or-lt-of-le}
 use native.Mathlib.Decide.{decLt}
 use mathlib.Core.Path.{_≡_, refl, sym, ap, subst, subst₂, _∙_}
-use mathlib.Core.List.{List, [], _∷_, _++_}
-use mathlib.Core.Bool.{Bool, true, false}
+use mathlib.Core.List.{List, [], _++_}
+use mathlib.Core.Bool.{Bool, true, false, cond}
+use mathlib.Core.Logic.{_⊎_, inl, inr}
 use lib.Dec.{T}
-use lib.ListN.{length, getD, take, drop, length-append, length-take, length-drop, take-append-drop, List·getD-append}
+use lib.ListN.{length, getD, drop, length-append, List·getD-append}
 use lib.Seq.{getD-append-add, drop-append-seam}
 use Rattle.mathematics.specs.Lists.{begins}
-use Rattle.mathematics.specs.Prepare.{overlap}
-use Rattle.mathematics.proofs.Parts.{begins-rest, begins-append}
-use Rattle.mathematics.proofs.Overlap.{Meet, overlap-meets, overlap-most}
-use Rattle.checker.specs.ReadTable.{rowAt, runs, Climbs, ReadHolds, RowHolds, Place}
-use Rattle.checker.proofs.TableLaws.{row-get, last-get, climbs-at, climbs-last}
+use Rattle.mathematics.specs.Prepare.{overlapUpTo, overlap}
+use Rattle.mathematics.proofs.Parts.{begins-append}
+use Rattle.mathematics.proofs.Overlap.{overlap-meets}
+use Rattle.checker.specs.ReadTable.{rowAt, runs, Climbs, RowHolds, Place}
+use Rattle.checker.proofs.TableLaws.{row-get, last-get, climbs-at, climbs-to, climbs-last}
 
 -- a number stands at one place of a list that climbs
 one-place : (a : List ℕ) (v p k : ℕ) → Climbs a → Place a v p → k < length a → getD a k 0 ≡ v → p ≡ k
@@ -31,6 +32,19 @@ place-after a v (suc p) g s h = omega arith
 place-inside : (a : List ℕ) (v p : ℕ) → Place a v p → 1 ≤ length a → v ≤ getD a (length a - 1) 0 → p < length a
 place-inside a v p g s h =
     elim (decLt p (length a)) [ yes l ↦ l | no l ↦ absurd (omega (arith, g .before (length a - 1) (omega arith))) ]
+
+pick-bound : (t : Bool) (k n : ℕ) → n ≤ k → cond t (suc k) n ≤ suc k
+pick-bound true k n l = omega arith
+pick-bound false k n l = omega arith
+
+upTo-bound : (k : ℕ) (a b : List ℕ) → overlapUpTo k a b ≤ k
+upTo-bound zero a b = omega arith
+upTo-bound (suc k) a b = pick-bound (begins (drop (length a - suc k) a) b) k (overlapUpTo k a b) (upTo-bound k a b)
+
+-- "a proper suffix", "a proper prefix"
+overlap-proper : (a b : List ℕ) → overlap a b ≤ min (length a) (length b) - 1
+unfolding overlap
+overlap-proper a b = upTo-bound (min (length a) (length b) - 1) a b
 
 -- what two reads that overlap have in common
 record Common (a b : List ℕ) : Type 0 where
@@ -56,11 +70,30 @@ common a b l =
       first = ap (λ (k : ℕ). getD a k 0) (sym (add-zero (length (m .x)))) ∙ here 0 (omega (arith, m .size));
       last = ap (λ (k : ℕ). getD a k 0) (sym end) ∙ here (overlap a b - 1) (omega (arith, m .size));
       size = omega (arith, la, m .size);
-      less = omega (arith, lb, m .size, m .some-y);
-      some = m .some-x;
+      less = omega (arith, overlap-proper a b);
+      some = omega (arith, la, m .size, overlap-proper a b);
       run = subst₂ (λ (q r : List ℕ). T (begins (drop (length (m .x)) q) r)) (sym (m .ends)) (sym (m .begin))
           (subst (λ (q : List ℕ). T (begins q (m .o ++ m .y))) (sym (drop-append-seam (m .x) (m .o))) (begins-append (m .o) (m .y)));
     }
+
+pick-some : (t : Bool) (k n : ℕ) → (1 ≤ n) ⊎ T t → 1 ≤ cond t (suc k) n
+pick-some true k n h = omega arith
+pick-some false k n (inl h) = h
+pick-some false k n (inr h) = absurd h
+
+-- an end of a that begins b shows that there is an overlap
+upTo-some : (k n : ℕ) (a b : List ℕ) → 1 ≤ n → n ≤ k → T (begins (drop (length a - n) a) b) → 1 ≤ overlapUpTo k a b
+upTo-some zero n a b l m t = absurd (omega arith)
+upTo-some (suc k) n a b l m t =
+    pick-some (begins (drop (length a - suc k) a) b) k (overlapUpTo k a b)
+    (elim (eq-or-lt-of-le m) [ inl e ↦ inr (subst (λ (i : ℕ). T (begins (drop (length a - i) a) b)) e t) | inr h ↦ inl (upTo-some k n a b l (omega arith) t) ])
+
+overlap-some : (a b : List ℕ) (p : ℕ) → 1 ≤ p → length a < length b + p → p < length a → T (begins (drop p a) b) → 1 ≤ overlap a b
+unfolding overlap
+overlap-some a b p s h q t =
+    let back : p ≡ length a - (length a - p) = omega arith in
+    upTo-some (min (length a) (length b) - 1) (length a - p) a b (omega arith) (omega arith)
+    (subst (λ (i : ℕ). T (begins (drop i a) b)) back t)
 
 none : (n : ℕ) → (1 ≤ n → ⊥) → 0 ≡ n
 none zero f = refl
@@ -82,6 +115,16 @@ module _ (a b : List ℕ) (ca : Climbs a) (cb : Climbs b) (sa : 1 ≤ length a) 
       none (overlap a b)
       (λ l. let m = common a b l in omega (arith, m .last, climbs-at b cb (overlap a b - 1) (length b - 1) (omega (arith, m .less)) (omega arith)))
 
+  -- an overlap longer than floor begins at the place below or before it
+  overlap-under : (floor : ℕ) → floor < length a → getD a (length a - 1 - floor) 0 < getD b 0 0 → overlap a b ≤ floor
+  overlap-under floor l h =
+      elim (decLt floor (overlap a b)) [
+        | yes k ↦
+            let m = common a b (omega arith) in
+            absurd (omega (arith, m .first, climbs-to a ca (m .from) (length a - 1 - floor) (omega (arith, m .size)) (omega arith)))
+        | no k ↦ omega arith
+      ]
+
   module _ (p : ℕ) (g : Place a (getD b 0 0) p) where
     at-place : (m : Common a b) → 1 ≤ overlap a b → p ≡ m .from
     at-place m l = one-place a (getD b 0 0) p (m .from) ca g (omega (arith, m .size)) (m .first)
@@ -98,13 +141,7 @@ module _ (a b : List ℕ) (ca : Climbs a) (cb : Climbs b) (sa : 1 ≤ length a) 
 
     overlap-found : 1 ≤ p → length a < length b + p → p < length a → T (begins (drop p a) b) → length a - p ≡ overlap a b
     overlap-found s h q t =
-        let (n, e) = begins-rest (drop p a) b t in
-        let ln : length b ≡ (length a - p) + length n = ap length e ∙ (length-append (drop p a) n ∙ ap (λ (k : ℕ). k + length n) (length-drop p a)) in
-        let most : length (drop p a) ≤ overlap a b =
-        subst₂ (λ (q r : List ℕ). length (drop p a) ≤ overlap q r) (take-append-drop p a) (sym e)
-        (overlap-most (take p a) (drop p a) n (omega (arith, length-take p a)) (omega (arith, ln)))
-        in
-        let l : 1 ≤ overlap a b = omega (arith, most, length-drop p a) in
+        let l : 1 ≤ overlap a b = overlap-some a b p s h q t in
         let m = common a b l in
         omega (arith, at-place m l, m .size)
 
@@ -113,17 +150,37 @@ module _ (rows : List (List ℕ)) (lens : List ℕ) (i j : ℕ) (gi : RowHolds r
   first-get = row-get rows lens i 0 (omega (arith, gi .long, gi .read .some))
 
 module _ (rows : List (List ℕ)) (lens : List ℕ) (i j : ℕ) (gi : RowHolds rows lens i) (gj : RowHolds rows lens j) where
+  -- where the number that far from the end is below the second read's first, the overlap is no longer than floor
+  pub meets-under : (floor : ℕ) → floor < getD lens i 0 → getD (getD rows i []) (getD lens i 0 - 1 - floor) 0 < getD (getD rows j []) 0 0 →
+      overlap (rowAt rows lens i) (rowAt rows lens j) ≤ floor
+  meets-under floor l h =
+      overlap-under (rowAt rows lens i) (rowAt rows lens j) (gi .read .climbs) (gj .read .climbs) (gi .read .some) (gj .read .some) floor
+      (omega (arith, gi .long))
+      (rw (gi .long, row-get rows lens i (getD lens i 0 - 1 - floor) (omega arith), first-get rows lens j i gj gi) h)
+
+  -- an overlap is no longer than the first read
+  pub meets-short : (floor : ℕ) → getD lens i 0 ≤ floor → overlap (rowAt rows lens i) (rowAt rows lens j) ≤ floor
+  meets-short floor l =
+      elim (decLt floor (overlap (rowAt rows lens i) (rowAt rows lens j))) [
+        | yes k ↦ absurd (omega (arith, gi .long, common (rowAt rows lens i) (rowAt rows lens j) (omega arith) .size))
+        | no k ↦ omega arith
+      ]
+
+  -- no overlap: the second read begins at or below the first read's first number
   pub meets-first : getD (getD rows j []) 0 0 ≤ getD (getD rows i []) 0 0 → 0 ≡ overlap (rowAt rows lens i) (rowAt rows lens j)
   meets-first h =
       overlap-first (rowAt rows lens i) (rowAt rows lens j) (gi .read .climbs) (gj .read .climbs) (gi .read .some) (gj .read .some)
       (omega (arith, first-get rows lens i j gi gj, first-get rows lens j i gj gi))
 
+  -- no overlap: the second read begins above the first read's last number
   pub meets-beyond : getD (getD rows i []) (getD lens i 0 - 1) 0 < getD (getD rows j []) 0 0 → 0 ≡ overlap (rowAt rows lens i) (rowAt rows lens j)
   meets-beyond h =
       overlap-beyond (rowAt rows lens i) (rowAt rows lens j) (gi .read .climbs) (gj .read .climbs) (gi .read .some) (gj .read .some)
       (omega (arith, last-get rows lens i j gi gj, first-get rows lens j i gj gi))
 
-  pub meets-inside : getD (getD rows j []) (getD lens j 0 - 1) 0 ≤ getD (getD rows i []) (getD lens i 0 - 1) 0 → 0 ≡ overlap (rowAt rows lens i) (rowAt rows lens j)
+  -- no overlap: the second read does not reach beyond the first
+  pub meets-inside : getD (getD rows j []) (getD lens j 0 - 1) 0 ≤ getD (getD rows i []) (getD lens i 0 - 1) 0 →
+      0 ≡ overlap (rowAt rows lens i) (rowAt rows lens j)
   meets-inside h =
       overlap-inside (rowAt rows lens i) (rowAt rows lens j) (gi .read .climbs) (gj .read .climbs) (gi .read .some) (gj .read .some)
       (omega (arith, last-get rows lens i j gi gj, last-get rows lens j i gj gi))
@@ -132,18 +189,23 @@ module _ (rows : List (List ℕ)) (lens : List ℕ) (i j : ℕ) (gi : RowHolds r
     place-row : Place (rowAt rows lens i) (getD (rowAt rows lens j) 0 0) p
     place-row = rw (first-get rows lens j i gj gi) g
 
+    -- no overlap: the second read would end inside the first
     pub meets-long : getD lens j 0 + p ≤ getD lens i 0 → 0 ≡ overlap (rowAt rows lens i) (rowAt rows lens j)
     meets-long h =
         overlap-long (rowAt rows lens i) (rowAt rows lens j) (gi .read .climbs) (gj .read .climbs) (gi .read .some) (gj .read .some) p place-row
         (omega (arith, gi .long, gj .long))
 
+    -- no overlap: the runs differ
     pub meets-none : false ≡ runs rows lens i p j 0 → 0 ≡ overlap (rowAt rows lens i) (rowAt rows lens j)
     unfolding runs
     meets-none e =
         overlap-none (rowAt rows lens i) (rowAt rows lens j) (gi .read .climbs) (gj .read .climbs) (gi .read .some) (gj .read .some) p place-row
         (sym e)
 
-    pub meets-found : getD (getD rows i []) 0 0 < getD (getD rows j []) 0 0 → getD (getD rows j []) 0 0 ≤ getD (getD rows i []) (getD lens i 0 - 1) 0 → getD lens i 0 < getD lens j 0 + p → true ≡ runs rows lens i p j 0 → getD lens i 0 - p ≡ overlap (rowAt rows lens i) (rowAt rows lens j)
+    -- the overlap is what the first read has from that place on
+    pub meets-found : getD (getD rows i []) 0 0 < getD (getD rows j []) 0 0 →
+        getD (getD rows j []) 0 0 ≤ getD (getD rows i []) (getD lens i 0 - 1) 0 → getD lens i 0 < getD lens j 0 + p →
+        true ≡ runs rows lens i p j 0 → getD lens i 0 - p ≡ overlap (rowAt rows lens i) (rowAt rows lens j)
     unfolding runs
     meets-found f l h e =
         subst (λ (n : ℕ). n - p ≡ overlap (rowAt rows lens i) (rowAt rows lens j)) (gi .long)

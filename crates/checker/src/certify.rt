@@ -2,8 +2,8 @@
 use crate::Found;
 use crate::Graph;
 use crate::Verdict;
-use crate::answer::Answer;
-use crate::answer::mark_plus;
+use crate::Answer;
+use crate::answers::mark_plus;
 use crate::bytes::be16;
 use crate::bytes::be32;
 use crate::bytes::wide;

@@ -1,8 +1,7 @@
 // Preparing the reads: a table of reads, a row each, lengths beside it. What a part of another is dropped; then the longest overlap is joined, while there is one.
 ghost use mathlib.Core.Path.{_≡_};
-ghost use mathlib.Core.List.{List, []};
-ghost use mathlib.Core.Bool.{Bool, true, false, cond};
-ghost use Prim.Native.Nat.{ℕ, suc, _+_, _-_, _<_, _≤_};
+ghost use mathlib.Core.List.{[]};
+ghost use Prim.Native.Nat.{_+_, _-_, _<_, _≤_};
 ghost use lib.ListN.{length, getD, take, set};
 ghost use Rattle.mathematics.specs.Lists.{holds};
 ghost use Rattle.mathematics.specs.Prepare.{dropParts, overlap as overlapOf, longest as longestOf, without, joinAt, prepare};
@@ -229,9 +228,17 @@ fn longer_of(
     if i == j {
         return best;
     }
-    let n = overlap(rows, lens, i, j);
-    if best.length < n {
-        return Meeting { length: n, i, j };
+    let n = lens[i];
+    let floor = best.length;
+    if n <= floor {
+        return best;
+    }
+    if rows[i][n - 1 - floor] < rows[j][0] {
+        return best;
+    }
+    let k = overlap(rows, lens, i, j);
+    if floor < k {
+        return Meeting { length: k, i, j };
     }
     best
 }
