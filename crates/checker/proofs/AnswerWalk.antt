@@ -111,7 +111,7 @@ grow l i w x c h = go (ℕ-discrete x i)
     go (no e) = rw (getD-set-other l i x (getD l i 0 + w) 0 e, ne-eqb x i e, zero-add)
 
 -- an item is among the items at most as often as there are items
-count-few : (i : Item) (js : List Item) → countOf i js ≤ length js
+pub count-few : (i : Item) (js : List Item) → countOf i js ≤ length js
 count-few i [] = le-refl 0
 count-few i (j ∷ js) = go (sameItem i j) (count-few i js)
   where
