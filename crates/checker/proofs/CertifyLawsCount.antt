@@ -48,7 +48,7 @@ module _ (s : List ℕ) (right : ArcsRight s) (u v : ℕ) (counts : List ℕ) (l
 
   module _ (k : ℕ) (found : At k ≡ arcNumber (arcsOf s) u v) where
     arc-inside : k < arcCount s
-    arc-inside = found-arc s u v k found .inside
+    arc-inside = found-arc s u v right k found .inside
 
     -- arc k goes from u to v: it alone is counted
     pub arc-one : ArcPassed s u v counts (set counts k (getD counts k 0 + 1))
@@ -58,7 +58,7 @@ module _ (s : List ℕ) (right : ArcsRight s) (u v : ℕ) (counts : List ℕ) (l
           each =
               λ a h.
               let e = grow counts k 1 a 0 (omega (arith, long, arc-inside, right .header .few-arcs)) in
-              let same = ap oneIf (only-arc s right u v k a (found-arc s u v k found) h) in
+              let same = ap oneIf (only-arc s right u v k a (found-arc s u v right k found) h) in
               omega (arith, e, same);
         }
 
