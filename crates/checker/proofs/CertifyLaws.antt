@@ -114,6 +114,9 @@ arc-read {s} {n} {a} e tail head costs =
       costs = costs ∙ ap (λ m. be32 s (13 + 5 * m + 10 * a + 2)) e;
     }
 
+pub arc-demand-read : (s : List ℕ) (n a d : ℕ) → n ≡ vertexCount s → d ≡ be32 s (13 + 5 * n + 10 * a + 6) → d ≡ arcDemand s (arcAt s a)
+arc-demand-read s n a d e read = read ∙ ap (λ m. be32 s (13 + 5 * m + 10 * a + 6)) e
+
 pub tail-below : {s : List ℕ} {n a u : ℕ} → Reads s → n ≡ vertexCount s → a < arcCount s → u ≡ byte s (13 + 5 * n + 10 * a) → u < vertexCount s
 tail-below {s} {n} {a} r e h tail =
     omega (arith, r .arcs .each a h .rises, r .arcs .each a h .inside, tail ∙ ap (λ m. byte s (13 + 5 * m + 10 * a)) e)

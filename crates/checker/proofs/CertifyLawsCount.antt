@@ -206,6 +206,8 @@ module _ {s vr ar : List ℕ} {rows : List (List ℕ)} {lens : List ℕ} {count 
       record {
         vertices = λ x b. omega (arith, left .vertices x (omega (arith, right .header .few-vertices)), ap (readsThrough (vert x)) none);
         arcs = λ a b. omega (arith, left .arcs a b, ap (readsThrough (arcItem s a)) none);
+        vertices-low = λ x b. reads-low .vertices x (omega (arith, right .header .few-vertices));
+        arcs-low = λ a b. reads-low .arcs a b;
       }
     where
       none : drop i (rowsOf rows lens count) ≡ []

@@ -10,6 +10,7 @@ pub mod ArcLaws
 -- Laws that the proofs of functions cite.
 pub mod TableLaws
 pub mod OverlapLaws
+pub mod CertifyLawsBound
 pub mod CertifyLawsCount
 pub mod CertifyLawsTable
 pub mod CertifyLawsSlack

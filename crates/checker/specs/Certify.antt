@@ -56,13 +56,15 @@ pub record NoneBelow (s t : List ℕ) : Type 0 where
 pub record Counted (s : List ℕ) (rs : List (List ℕ)) (vertexReads arcReads : List ℕ) : Type 0 where
   pub vertices : (v : ℕ) → v < vertexCount s → getD vertexReads v 0 ≡ readsThrough (vert v) rs
   pub arcs : (a : ℕ) → a < arcCount s → getD arcReads a 0 ≡ readsThrough (arcItem s a) rs
+  pub vertices-low : (v : ℕ) → v < vertexCount s → getD vertexReads v 0 ≤ 10000
+  pub arcs-low : (a : ℕ) → a < arcCount s → getD arcReads a 0 ≤ 10000
 
 -- 22: what vertex v and arc a add to the bound, whose slacks are not below 0: its demand, or the prepared reads through it where those are more, times its slack
-unfoldable pub vertexPart : List ℕ → List ℕ → List ℕ → ℕ → ℕ
-vertexPart s t counts v = max (vertexDemand s v) (getD counts v 0) * natAbs (vertexSlack whole (marksOf t) v)
+unfoldable pub vertexPart : List ℕ → List ℕ → ℕ → ℕ → ℕ
+vertexPart s t v reads = max (vertexDemand s v) reads * natAbs (vertexSlack whole (marksOf t) v)
 
-unfoldable pub arcPart : List ℕ → List ℕ → List ℕ → ℕ → ℕ
-arcPart s t counts a = max (arcDemand s (arcAt s a)) (getD counts a 0) * natAbs (arcSlack whole (marksOf t) (arcOf s a))
+unfoldable pub arcPart : List ℕ → List ℕ → ℕ → ℕ → ℕ
+arcPart s t a reads = max (arcDemand s (arcAt s a)) reads * natAbs (arcSlack whole (marksOf t) (arcOf s a))
 
 -- f at first, first + 1, .., count of them, in total
 unfoldable pub sumFrom : (ℕ → ℕ) → ℕ → ℕ → ℕ
@@ -86,3 +88,13 @@ pub record CountsLow (s vertexReads arcReads : List ℕ) (most : ℕ) : Type 0 w
 pub record ArcPassed (s : List ℕ) (u v : ℕ) (before after : List ℕ) : Type 0 where
   pub long : length after ≡ maxArcs
   pub each : (a : ℕ) → a < arcCount s → getD after a 0 ≡ getD before a 0 + oneIf (sameItem (arcItem s a) (arc u v))
+
+-- a part of the bound, and that it is no more than 1,000,000 times 4,001,000,000
+pub record Part (expected r : ℕ) : Type 0 where
+  pub is : r ≡ expected
+  pub low : r ≤ 4_001_000_000_000_000
+
+-- a sum of that many parts
+pub record Sum (expected parts r : ℕ) : Type 0 where
+  pub is : r ≡ expected
+  pub low : r ≤ 4_001_000_000_000_000 * parts

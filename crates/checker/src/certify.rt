@@ -1,15 +1,16 @@
 // Numbers 19, 21 and 22: demands and reads met, no slack below 0, and the bound.
+use crate::Answer;
 use crate::Found;
 use crate::Graph;
 use crate::Verdict;
-use crate::Answer;
 use crate::answers::mark_plus;
 use crate::bytes::be16;
 use crate::bytes::be32;
 use crate::bytes::wide;
 use crate::reader::find_arc;
+use crate::reads::prepare_reads;
 ghost use mathlib.Core.Path.{_≡_};
-ghost use Prim.Native.Nat.{ℕ, _+_, _*_, _<_, _≤_};
+ghost use Prim.Native.Nat.{ℕ, _+_, _*_, _<_, _≤_, max};
 ghost use lib.ListN.{length, getD, take};
 ghost use lib.IntN.{natAbs};
 ghost use Rattle.mathematics.specs.Price.{whole};
@@ -25,7 +26,7 @@ ghost use Rattle.mathematics.specs.Cover.{trail};
 ghost use Rattle.checker.specs.GraphReads.{Reads};
 ghost use Rattle.checker.specs.GraphFaults.{firstFault};
 ghost use Rattle.checker.specs.AnswerForm.{marksOf};
-ghost use Rattle.checker.specs.Certify.{TableSized, CountsLow, ArcPassed, Counted, arcPlace, readPlace, vertexUnmet, arcUnmet, readUnmet, vertexSlackFault, arcSlackFault, MarksStand, NoneBelow, vertexPart, arcPart, sumFrom};
+ghost use Rattle.checker.specs.Certify.{TableSized, CountsLow, ArcPassed, Counted, arcPlace, readPlace, vertexUnmet, arcUnmet, readUnmet, vertexSlackFault, arcSlackFault, MarksStand, NoneBelow, vertexPart, arcPart, sumFrom, Part, Sum};
 
 // The first vertex whose demand is above the weights of the paths through it.
 fn vertices_unmet(s: &[u8], totals: &[usize; 64]) -> Verdict
@@ -240,4 +241,71 @@ pub fn count_reads(
         count_row(s, first, rows, lens, i, vertex_reads, arc_reads);
         i += 1;
     }
+}
+
+// The greater of two numbers.
+fn greater(a: usize, b: usize) -> usize
+    ensures { λ r. ⌜ r ≡ max a b ⌝ }
+{
+    if a < b {
+        return b;
+    }
+    a
+}
+
+// What vertex v adds to the bound, with that many prepared reads through it: no slack is below 0 here.
+fn vertex_part(s: &[u8], t: &[u8], v: usize, reads: usize) -> usize
+    requires { ⌜ Reads (now s) × MarksStand (vertexCount (now s)) (now t) × (v < vertexCount (now s)) ⌝ }
+    requires { ⌜ NoneBelow (now s) (now t) × (reads ≤ 10000) ⌝ }
+    ensures { λ r. ⌜ Part (vertexPart (now (s .entry)) (now (t .entry)) v reads) r ⌝ }
+{
+    let owed = greater(be32(s, Graph::HEADER + Graph::VERTEX * v + 1), reads);
+    let into = mark_plus(t, Answer::HEADER + 8 * v);
+    let out = mark_plus(t, Answer::HEADER + 8 * v + Answer::MARK);
+    owed * (into - out)
+}
+
+// What arc a adds to the bound, with that many prepared reads through it.
+fn arc_part(s: &[u8], t: &[u8], n: usize, a: usize, reads: usize) -> usize
+    requires { ⌜ Reads (now s) × MarksStand (vertexCount (now s)) (now t) × (n ≡ vertexCount (now s)) × (a < arcCount (now s)) ⌝ }
+    requires { ⌜ NoneBelow (now s) (now t) × (reads ≤ 10000) ⌝ }
+    ensures { λ r. ⌜ Part (arcPart (now (s .entry)) (now (t .entry)) a reads) r ⌝ }
+{
+    let at = Graph::HEADER + Graph::VERTEX * n + Graph::ARC * a;
+    let out = mark_plus(t, Answer::HEADER + 8 * wide(s[at]) + Answer::MARK);
+    let into = mark_plus(t, Answer::HEADER + 8 * wide(s[at + 1]));
+    greater(be32(s, at + 6), reads) * (be32(s, at + 2) + out - into)
+}
+
+// The parts of the vertices, in total.
+fn vertices_sum(s: &[u8], t: &[u8], reads: &[usize; 64]) -> usize
+    requires { ⌜ Reads (now s) × MarksStand (vertexCount (now s)) (now t) × NoneBelow (now s) (now t) ⌝ }
+    requires { ⌜ ((v : ℕ) → v < vertexCount (now s) → getD (now reads) v 0 ≤ 10000) ⌝ }
+    ensures { λ r. ⌜ Sum (sumFrom (λ v. vertexPart (now (s .entry)) (now (t .entry)) v (getD (now (reads .entry)) v 0)) (vertexCount (now (s .entry))) 0) 64 r ⌝ }
+{
+    let n = wide(s[5]);
+    let mut sum = 0;
+    let mut v = 0;
+    while v < n {
+        sum += vertex_part(s, t, v, reads[v]);
+        v += 1;
+    }
+    sum
+}
+
+// The parts of the arcs, in total.
+fn arcs_sum(s: &[u8], t: &[u8], reads: &[usize; 256]) -> usize
+    requires { ⌜ Reads (now s) × MarksStand (vertexCount (now s)) (now t) × NoneBelow (now s) (now t) ⌝ }
+    requires { ⌜ ((a : ℕ) → a < arcCount (now s) → getD (now reads) a 0 ≤ 10000) ⌝ }
+    ensures { λ r. ⌜ Sum (sumFrom (λ a. arcPart (now (s .entry)) (now (t .entry)) a (getD (now (reads .entry)) a 0)) (arcCount (now (s .entry))) 0) 256 r ⌝ }
+{
+    let n = wide(s[5]);
+    let count = be16(s, 6);
+    let mut sum = 0;
+    let mut a = 0;
+    while a < count {
+        sum += arc_part(s, t, n, a, reads[a]);
+        a += 1;
+    }
+    sum
 }
