@@ -1,13 +1,13 @@
 -- Counting the reads of the table: what one read adds at each vertex and arc, and what all of them come to.
 use Prim.Native.Nat.{ℕ, zero, suc, _+_, _-_, _*_, _<_, _≤_}
-use native.Mathlib.Nat.{zero-add, add-zero, le-refl}
+use native.Mathlib.Nat.{add-zero, le-refl, le-of-eq}
 use native.Mathlib.Omega.{arith}
 use native.Mathlib.Numerals.{add-one}
 use mathlib.Core.Path.{_≡_, refl, sym, ap, subst, _∙_}
 use mathlib.Core.List.{List, [], _∷_}
 use mathlib.Core.Bool.{Bool, true, false, _&&_}
 use lib.Dec.{eqb}
-use lib.ListN.{length, getD, drop, set, length-set, length-drop, drop-of-length-le}
+use lib.ListN.{length, getD, drop, set, length-set, length-drop, drop-of-length-le, replicate, length-replicate}
 use lib.Seq.{drop-cons}
 use borrow.Author.Tests.{eqb-true}
 use Rattle.mathematics.specs.Graph.{hasArc}
@@ -212,3 +212,18 @@ module _ {s vr ar : List ℕ} {rows : List (List ℕ)} {lens : List ℕ} {count 
     where
       none : drop i (rowsOf rows lens count) ≡ []
       none = drop-of-length-le (rowsOf rows lens count) {i = i} (omega (arith, table-length rows lens count t))
+
+-- counts that are 0 everywhere
+pub counts-none : {s : List ℕ} → CountsLow s (replicate 64 0) (replicate 256 0) 0
+counts-none {s} =
+    record {
+      vertices-long = length-replicate {A = ℕ} 64 0;
+      arcs-long = length-replicate {A = ℕ} 256 0;
+      vertices = λ v h. le-of-eq (zero-at 64 v);
+      arcs = λ a h. le-of-eq (zero-at 256 a);
+    }
+  where
+    zero-at : (n k : ℕ) → getD {A = ℕ} (replicate n 0) k 0 ≡ 0
+    zero-at zero k = refl
+    zero-at (suc n) zero = refl
+    zero-at (suc n) (suc k) = zero-at n k

@@ -11,6 +11,7 @@ pub mod ArcLaws
 pub mod TableLaws
 pub mod OverlapLaws
 pub mod CertifyLawsBound
+pub mod CertifyLawsTotal
 pub mod CertifyLawsCount
 pub mod CertifyLawsTable
 pub mod CertifyLawsSlack

@@ -12,12 +12,12 @@ use crate::reads::prepare_reads;
 ghost use mathlib.Core.Path.{_≡_};
 ghost use Prim.Native.Nat.{ℕ, _+_, _*_, _<_, _≤_, max};
 ghost use lib.ListN.{length, getD, take};
-ghost use lib.IntN.{natAbs};
+ghost use lib.IntN.{pos};
 ghost use Rattle.mathematics.specs.Price.{whole};
-ghost use Rattle.mathematics.specs.Bound.{vertexSlack, arcSlack};
+ghost use Rattle.mathematics.specs.Bound.{bound};
 ghost use Rattle.checker.specs.GraphForm.{vertexCount, arcCount, readCount};
 ghost use Rattle.checker.specs.Bytes.{part};
-ghost use Rattle.checker.specs.GraphOf.{graphOf, arcOf};
+ghost use Rattle.checker.specs.GraphOf.{graphOf};
 ghost use Rattle.checker.specs.ReadTable.{rowAt, rowsOf, RowHolds, TableHolds, Leaves};
 ghost use Rattle.checker.specs.ArcTable.{ArcTable};
 ghost use Rattle.checker.specs.Limits.{maxVertices, maxArcs};
@@ -308,4 +308,27 @@ fn arcs_sum(s: &[u8], t: &[u8], reads: &[usize; 256]) -> usize
         a += 1;
     }
     sum
+}
+
+// The bound: the parts of vertices and arcs, with the prepared reads counted at each.
+pub fn bound_of(s: &[u8], first: &[u16; 65], t: &[u8]) -> usize
+    requires { ⌜ Reads (now s) × ArcTable (now s) (now first) × MarksStand (vertexCount (now s)) (now t) × NoneBelow (now s) (now t) ⌝ }
+    ensures { λ r. ⌜ pos r ≡ bound whole (graphOf (now (s .entry))) (marksOf (now (t .entry))) ⌝ }
+{
+    let mut rows = [[0u8; 64]; 16];
+    let mut lens = [0usize; 16];
+    let loaded = load_reads(s, &mut rows, &mut lens);
+    let count = prepare_reads(&mut rows, &mut lens, loaded);
+    let mut vertex_reads = [0usize; 64];
+    let mut arc_reads = [0usize; 256];
+    count_reads(
+        s,
+        first,
+        &rows,
+        &lens,
+        count,
+        &mut vertex_reads,
+        &mut arc_reads,
+    );
+    vertices_sum(s, t, &vertex_reads) + arcs_sum(s, t, &arc_reads)
 }
