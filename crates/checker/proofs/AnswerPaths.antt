@@ -299,3 +299,7 @@ module _ {s t vl al : List ℕ} {met : List Bool} {p lp copies cost left at : �
     -- the next record, from what the code has read
     pub paths-turn : {w l o : ℕ} → w ≡ pathWeight t at → l ≡ pathLength t at → o ≡ openingPrice s → openingPrice s ≤ maxOpening → PathsLeft s t va aa ma (at + 5) l (copies + w) (cost + w * (o + c)) (left - 1) (at + 5 + l)
     paths-turn weighs counts opens low = rw (weighs, counts, opens) (turned low)
+
+-- the same, told by a result that has these numbers
+pub paths-told : {s t vl al : List ℕ} {met : List Bool} {number place cost n q k : ℕ} → (number ≡ n) × (place ≡ q) × (cost ≡ k) → PathsRead s t vl al met n q k → PathsRead s t vl al met number place cost
+paths-told e h = rw (e .0, e .1, e .2) h

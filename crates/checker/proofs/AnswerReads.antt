@@ -18,7 +18,7 @@ use Rattle.checker.specs.GraphReads.{Reads, ReadRight, ReadsRight}
 use Rattle.checker.specs.Tallies.{readOf, Marked}
 use Rattle.checker.proofs.AnswerLaws.{part-cons, part-none}
 
-and-false : (x : Bool) → (x && false) ≡ false
+pub and-false : (x : Bool) → (x && false) ≡ false
 and-false true = refl
 and-false false = refl
 

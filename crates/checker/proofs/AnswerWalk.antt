@@ -3,10 +3,9 @@ use Prim.Native.Nat.{ℕ, zero, suc, _+_, _-_, _*_, _/_, _%_, _<_, _≤_}
 use native.Mathlib.Nat.{le-refl, zero-add, add-zero, sub-zero, mul-one, mul-zero, mul-add, mul-le-mul-left}
 use native.Mathlib.Decide.{decLt, ℕ-discrete}
 use native.Mathlib.Omega.{arith}
-use mathlib.Core.Path.{_≡_, refl, sym, ap, subst, _∙_}
+use mathlib.Core.Path.{_≡_, refl, sym, ap, _∙_}
 use mathlib.Core.List.{List, [], _∷_}
 use mathlib.Core.Bool.{Bool, true, false, cond, _&&_}
-use mathlib.Core.Logic.{⊎-elim}
 use lib.Dec.{eqb}
 use lib.ListN.{length, getD, set, length-set}
 use lib.Seq.{getD-set-same, getD-set-other}
@@ -25,7 +24,7 @@ use Rattle.checker.specs.GraphReads.{ArcsRight, Reads}
 use Rattle.checker.specs.ArcTable.{numberFrom, arcNumber}
 use Rattle.checker.specs.Tallies.{arcItem, onward, goesOnTo, Room, Grown, Walked, PathWalked}
 use Rattle.checker.proofs.AnswerLaws.{part-cons, part-none}
-use Rattle.checker.proofs.AnswerReads.{part-length}
+use Rattle.checker.proofs.AnswerReads.{and-false, part-length}
 use Rattle.checker.proofs.GraphFacts.{ends-differ}
 use Rattle.checker.proofs.Lookup.{found-iff-goes}
 use Rattle.checker.proofs.WalkLaws.{isAt, found-is}
@@ -129,10 +128,6 @@ pub length-onward : (u : ℕ) (q : List ℕ) → length (onward u q) ≡ 2 * len
 length-onward u [] = refl
 length-onward u (v ∷ q) = omega (arith, length-onward v q)
 
-and-none : (x : Bool) → (x && false) ≡ false
-and-none true = refl
-and-none false = refl
-
 -- what goes on from u to v and from there along q
 module _ (s : List ℕ) (u v : ℕ) (q : List ℕ) where
   goes-outside : vertexCount s ≤ v → goesOnTo s u (v ∷ q) ≡ false
@@ -141,7 +136,7 @@ module _ (s : List ℕ) (u v : ℕ) (q : List ℕ) where
 
   goes-nowhere : hasArc (arcsOf s) u v ≡ false → goesOnTo s u (v ∷ q) ≡ false
   unfolding goesOnTo
-  goes-nowhere h = rw h (and-none (allBelow (vertexCount s) (v ∷ q)))
+  goes-nowhere h = rw h (and-false (allBelow (vertexCount s) (v ∷ q)))
 
   goes-along : v < vertexCount s → hasArc (arcsOf s) u v ≡ true → goesOnTo s u (v ∷ q) ≡ goesOnTo s v q
   unfolding goesOnTo
@@ -286,7 +281,7 @@ module _ (s t : List ℕ) (b lb weight : ℕ) (vb ab : List ℕ) (some : 1 ≤ l
   path-outside h = walk-fails (rw (opened, le-ltb u (vertexCount s) h))
 
   pub path-no-start : isStart (graphOf s) u ≡ false → PathWalked s (part t b lb) weight vb vb ab ab false 0
-  path-no-start e = walk-fails (rw (opened, e) (sym (and-none (allBelow (vertexCount s) (u ∷ part t (b + 1) (lb - 1))))))
+  path-no-start e = walk-fails (rw (opened, e) (sym (and-false (allBelow (vertexCount s) (u ∷ part t (b + 1) (lb - 1))))))
 
   module _ (inside : u < vertexCount s) (start : isStart (graphOf s) u ≡ true) (few : vertexCount s ≤ maxVertices) where
     path-is : goesOnTo s u (part t (b + 1) (lb - 1)) ≡ (allBelow (vertexCount s) (u ∷ part t (b + 1) (lb - 1)) && isPath (graphOf s) (u ∷ part t (b + 1) (lb - 1)))

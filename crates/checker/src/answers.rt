@@ -27,14 +27,23 @@ ghost use Rattle.checker.specs.AnswerForm.{signed32, inMarkAt, firstPath
 ghost use Rattle.checker.specs.AnswerFaults.{answerHeaderVerdict, markFault, marksVerdict, listBefore};
 
 impl Answer {
-    // Document 01, "The two forms": how long the header, a mark and the head of a path's record are, and a path at the most.
+    // Document 01, "The two forms": how long the header, a mark, a vertex's marks, a weight, the head of a path's record and a path at the most are,
+    // and where version and number of paths stand.
     pub const HEADER: usize = 15;
 
     pub const MARK: usize = 4;
 
+    pub const MARKS: usize = 8;
+
+    pub const WEIGHT: usize = 4;
+
     pub const PATH: usize = 5;
 
     pub const MAX_PATH: usize = 64;
+
+    pub const AT_VERSION: usize = 4;
+
+    pub const AT_PATHS: usize = 5;
 }
 
 // What is wrong with the header: 11, 12 or 13.
@@ -42,7 +51,7 @@ pub fn header_verdict(s: &[u8], t: &[u8]) -> Verdict
     requires { ⌜ 5 < length (now s) ⌝ }
     ensures { λ r. ⌜ r ≡ answerHeaderVerdict (now (s .entry)) (now (t .entry)) nothingRefused ⌝ }
 {
-    if t.len() < Answer::HEADER + 8 * wide(s[5]) {
+    if t.len() < Answer::HEADER + Answer::MARKS * wide(s[Graph::AT_VERTICES]) {
         return Verdict {
             number: 11,
             place: 0,
@@ -54,16 +63,16 @@ pub fn header_verdict(s: &[u8], t: &[u8]) -> Verdict
             place: 0,
         };
     }
-    if wide(t[4]) != 1 {
+    if wide(t[Answer::AT_VERSION]) != 1 {
         return Verdict {
             number: 12,
-            place: 4,
+            place: Answer::AT_VERSION,
         };
     }
-    if Answer::MAX_PATHS < be16(t, 5) {
+    if Answer::MAX_PATHS < be16(t, Answer::AT_PATHS) {
         return Verdict {
             number: 13,
-            place: 5,
+            place: Answer::AT_PATHS,
         };
     }
     Verdict {
@@ -196,12 +205,14 @@ fn met_now(met: bool, s: &[u8], a: usize, la: usize, t: &[u8], b: usize, lb: usi
 }
 
 // Marks the reads that the path of lb vertices at b holds. Reads are walked by their records.
-fn mark_reads(s: &[u8], t: &[u8], b: usize, lb: usize, met: &mut [bool; 16])
+fn mark_reads(s: &[u8], t: &[u8], b: usize, lb: usize, met: &mut [bool; Graph::MAX_READS])
     requires { ⌜ Reads (now s) × (b + lb ≤ length (now t)) × (length (now met) ≡ maxReads) ⌝ }
     ensures { λ r. ⌜ Marked (now (s .entry)) (part (now (t .entry)) b lb) (now (met .entry)) (now (met .exit)) ⌝ }
 {
-    let count = wide(s[8]);
-    let mut at = Graph::HEADER + Graph::VERTEX * wide(s[5]) + Graph::ARC * be16(s, 6);
+    let count = wide(s[Graph::AT_READS]);
+    let mut at = Graph::HEADER
+        + Graph::VERTEX * wide(s[Graph::AT_VERTICES])
+        + Graph::ARC * be16(s, Graph::AT_ARCS);
     let mut r = 0;
     while r < count {
         let la = wide(s[at]);
@@ -251,20 +262,20 @@ fn cost_of(s: &[u8], n: usize, k: usize) -> usize
 // Walks on from vertex u, which is counted already, along lb vertices at b: one look for an arc with each.
 fn walk_on(
     s: &[u8],
-    first: &[u16; 65],
+    first: &[u16; Graph::MAX_VERTICES + 1],
     t: &[u8],
     b: usize,
     lb: usize,
     from: usize,
     weight: usize,
-    vertex_totals: &mut [usize; 64],
-    arc_totals: &mut [usize; 256],
+    vertex_totals: &mut [usize; Graph::MAX_VERTICES],
+    arc_totals: &mut [usize; Graph::MAX_ARCS],
 ) -> Walk
     requires { ⌜ Reads (now s) × ArcTable (now s) (now first) × (from < vertexCount (now s)) ⌝ }
     requires { ⌜ (lb ≤ 63) × (b + lb ≤ length (now t)) × Room (now s) (now «vertex_totals») (now «arc_totals») weight 129 ⌝ }
     ensures { λ r. ⌜ Walked (now (s .entry)) (goesOnTo (now (s .entry)) from (part (now (t .entry)) b lb)) (onward from (part (now (t .entry)) b lb)) (from ∷ part (now (t .entry)) b lb) weight (now («vertex_totals» .entry)) (now («vertex_totals» .exit)) (now («arc_totals» .entry)) (now («arc_totals» .exit)) (r .ok) (r .cost) ⌝ }
 {
-    let n = wide(s[5]);
+    let n = wide(s[Graph::AT_VERTICES]);
     let mut u = from;
     let mut cost = 0;
     let mut j = 0;
@@ -290,20 +301,20 @@ fn walk_on(
 // Walks along the path of lb vertices at b, whose weight is added to the totals of the vertices and arcs on it.
 fn walk_path(
     s: &[u8],
-    first: &[u16; 65],
+    first: &[u16; Graph::MAX_VERTICES + 1],
     t: &[u8],
     b: usize,
     lb: usize,
     weight: usize,
-    vertex_totals: &mut [usize; 64],
-    arc_totals: &mut [usize; 256],
+    vertex_totals: &mut [usize; Graph::MAX_VERTICES],
+    arc_totals: &mut [usize; Graph::MAX_ARCS],
 ) -> Walk
     requires { ⌜ Reads (now s) × ArcTable (now s) (now first) × (1 ≤ lb) × (lb ≤ 64) ⌝ }
     requires { ⌜ (b + lb ≤ length (now t)) × Room (now s) (now «vertex_totals») (now «arc_totals») weight 128 ⌝ }
     ensures { λ r. ⌜ PathWalked (now (s .entry)) (part (now (t .entry)) b lb) weight (now («vertex_totals» .entry)) (now («vertex_totals» .exit)) (now («arc_totals» .entry)) (now («arc_totals» .exit)) (r .ok) (r .cost) ⌝ }
 {
     let u = wide(t[b]);
-    if wide(s[5]) <= u {
+    if wide(s[Graph::AT_VERTICES]) <= u {
         return Walk { ok: false, cost: 0 };
     }
     if !is_start(s, u) {
@@ -332,7 +343,7 @@ fn path_head_fault(t: &[u8], at: usize, copies: usize) -> usize
     if t.len() - at < Answer::PATH {
         return 15;
     }
-    let len = wide(t[at + 4]);
+    let len = wide(t[at + Answer::WEIGHT]);
     if len == 0 {
         return 16;
     }
@@ -362,15 +373,15 @@ pub struct PathRecord {
 // The path before it has lp vertices at p. Where there is a fault the tallies are of no use any more.
 fn read_path(
     s: &[u8],
-    first: &[u16; 65],
+    first: &[u16; Graph::MAX_VERTICES + 1],
     t: &[u8],
     at: usize,
     p: usize,
     lp: usize,
     copies: usize,
-    vertex_totals: &mut [usize; 64],
-    arc_totals: &mut [usize; 256],
-    met: &mut [bool; 16],
+    vertex_totals: &mut [usize; Graph::MAX_VERTICES],
+    arc_totals: &mut [usize; Graph::MAX_ARCS],
+    met: &mut [bool; Graph::MAX_READS],
 ) -> PathRecord
     requires { ⌜ Reads (now s) × ArcTable (now s) (now first) × (at ≤ length (now t)) × (p + lp ≤ length (now t)) × (copies ≤ maxWeight) ⌝ }
     requires { ⌜ Room (now s) (now «vertex_totals») (now «arc_totals») 0 128 × (length (now met) ≡ maxReads) ⌝ }
@@ -381,7 +392,7 @@ fn read_path(
         return PathRecord { fault, cost: 0 };
     }
     let weight = be32(t, at);
-    let lb = wide(t[at + 4]);
+    let lb = wide(t[at + Answer::WEIGHT]);
     let b = at + Answer::PATH;
     let walk = walk_path(s, first, t, b, lb, weight, vertex_totals, arc_totals);
     if !walk.ok {
@@ -404,22 +415,34 @@ pub struct Tally {
     pub price: usize,
 }
 
+impl Tally {
+    pub fn new(number: usize, place: usize, price: usize) -> Tally
+        ensures { λ r. ⌜ (r .number ≡ number) × (r .place ≡ place) × (r .price ≡ price) ⌝ }
+    {
+        Tally {
+            number,
+            place,
+            price,
+        }
+    }
+}
+
 // Reads the path records one after another. The totals, the reads met and the price are those of all paths where nothing is refused.
 pub fn read_paths(
     s: &[u8],
-    first: &[u16; 65],
+    first: &[u16; Graph::MAX_VERTICES + 1],
     t: &[u8],
-    vertex_totals: &mut [usize; 64],
-    arc_totals: &mut [usize; 256],
-    met: &mut [bool; 16],
+    vertex_totals: &mut [usize; Graph::MAX_VERTICES],
+    arc_totals: &mut [usize; Graph::MAX_ARCS],
+    met: &mut [bool; Graph::MAX_READS],
 ) -> Tally
     requires { ⌜ Reads (now s) × ArcTable (now s) (now first) × (firstPathAt (vertexCount (now s)) ≤ length (now t)) ⌝ }
     requires { ⌜ NothingTallied (now «vertex_totals») (now «arc_totals») (now met) ⌝ }
     ensures { λ r. ⌜ PathsRead (now (s .entry)) (now (t .entry)) (now («vertex_totals» .exit)) (now («arc_totals» .exit)) (now (met .exit)) (r .number) (r .place) (r .price) ⌝ }
 {
-    let opening = be32(s, 9);
-    let mut left = be16(t, 5);
-    let mut at = Answer::HEADER + 8 * wide(s[5]);
+    let opening = be32(s, Graph::AT_OPENING);
+    let mut left = be16(t, Answer::AT_PATHS);
+    let mut at = Answer::HEADER + Answer::MARKS * wide(s[Graph::AT_VERTICES]);
     let mut p = 0;
     let mut lp = 0;
     let mut copies = 0;
@@ -439,14 +462,10 @@ pub fn read_paths(
         );
         let fault = path.fault;
         if fault != 0 {
-            return Tally {
-                number: fault,
-                place: at,
-                price: 0,
-            };
+            return Tally::new(fault, at, 0);
         }
         let weight = be32(t, at);
-        lp = wide(t[at + 4]);
+        lp = wide(t[at + Answer::WEIGHT]);
         p = at + Answer::PATH;
         price += weight * (opening + path.cost);
         copies += weight;
@@ -454,15 +473,7 @@ pub fn read_paths(
         left -= 1;
     }
     if at < t.len() {
-        return Tally {
-            number: 15,
-            place: at,
-            price: 0,
-        };
+        return Tally::new(15, at, 0);
     }
-    Tally {
-        number: 0,
-        place: 0,
-        price,
-    }
+    Tally::new(0, 0, price)
 }

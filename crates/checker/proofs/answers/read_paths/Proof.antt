@@ -1,5 +1,5 @@
--- `checker::answers::read_paths` reads one record after another: what is tallied and what the records left add is what all give.
-use Rattle.checker.proofs.AnswerPaths.{PathsLeft, paths-begin, paths-room, paths-stop, paths-remain, paths-end, paths-turn, price-low}
+-- `checker::answer::read_paths` reads one record after another: what is tallied and what the records left add is what all give.
+use Rattle.checker.proofs.AnswerPaths.{PathsLeft, paths-begin, paths-room, paths-stop, paths-remain, paths-end, paths-turn, price-low, paths-told}
 use Rattle.checker.specs.GraphForm.{openingPrice}
 use mathlib.Core.Path.{_≡_, sym, _∙_}
 use native.Mathlib.Omega.{arith}
@@ -37,8 +37,11 @@ loop-holds c = (paths-begin (c .before .before .before .before .before .before .
 read-path-requires : tie.Need-read-path-requires Inv-loop μ-loop
 read-path-requires c κs = ((c .before .before .before .before .before .before .before .before .before .before .before .pre .0 .0, c .before .before .before .before .before .before .before .before .before .before .before .pre .0 .1, search needs, search needs, search needs), (paths-room (c .before .before .before .before .loop .inv .0), search needs))
 
+new-requires : tie.Need-new-requires Inv-loop μ-loop
+new-requires c κs = search needs
+
 returns : tie.Need-returns Inv-loop μ-loop
-returns c = paths-stop (c .before .before .before .before .before .before .loop .inv .0) (c .before .before .before .before .before .loop-test .taken) (c .before .read-path .ensures .is-fault) (c .if1 .taken)
+returns c = paths-told (c .new .ensures) (paths-stop (c .before .before .before .before .before .before .before .loop .inv .0) (c .before .before .before .before .before .before .loop-test .taken) (c .before .before .read-path .ensures .is-fault) (c .before .if1 .taken))
 
 be32-requires-2 : tie.Need-be32-requires-2 Inv-loop μ-loop
 be32-requires-2 c κs = omega (arith, (c .before .read-path .ensures .tallied (c .if1 .left)) .head)
@@ -79,11 +82,17 @@ loop-less c = search needs
 loop-again : tie.Need-loop-again Inv-loop μ-loop
 loop-again c = (paths-turn (c .before .before .before .before .before .before .before .before .before .before .loop .inv .0) (c .before .before .before .before .before .before .before .before .before .loop-test .taken) (c .before .before .before .before .before .read-path .ensures .tallied (c .before .before .before .before .if1 .left)) (sym (c .before .before .before .before .before .read-path .ensures .is-fault) ∙ c .before .before .before .before .if1 .left) (c .before .before .before .be322 .ensures .0) (c .before .wide2 .ensures .0) (c .before .before .before .before .before .before .before .before .before .before .loop .inv .1) (c .before .before .before .before .before .before .before .before .before .before .before .before .before .before .before .before .before .pre .0 .0 .arcs .header .low-opening), (c .before .before .before .before .before .before .before .before .before .before .loop .inv .1))
 
+new-requires-2 : tie.Need-new-requires-2 Inv-loop μ-loop
+new-requires-2 c κs = search needs
+
 returns-2 : tie.Need-returns-2 Inv-loop μ-loop
-returns-2 c = paths-remain (c .before .before .loop .inv .0) (search needs) (search needs)
+returns-2 c = paths-told (c .new2 .ensures) (paths-remain (c .before .before .before .loop .inv .0) (search needs) (search needs))
+
+new-requires-3 : tie.Need-new-requires-3 Inv-loop μ-loop
+new-requires-3 c κs = search needs
 
 returns-3 : tie.Need-returns-3 Inv-loop μ-loop
-returns-3 c = paths-end (c .before .before .loop .inv .0) (search needs) (search needs) (c .before .before .before .before .before .before .before .before .before .pre .0 .0)
+returns-3 c = paths-told (c .new3 .ensures) (paths-end (c .before .before .before .loop .inv .0) (search needs) (search needs) (c .before .before .before .before .before .before .before .before .before .before .pre .0 .0))
 
 pub read-paths-spec : {M : Type 1} → statement M
 read-paths-spec =
@@ -99,6 +108,7 @@ read-paths-spec =
     add-at
     loop-holds
     read-path-requires
+    new-requires
     returns
     be32-requires-2
     add-wide
@@ -113,5 +123,7 @@ read-paths-spec =
     sub-left
     loop-less
     loop-again
+    new-requires-2
     returns-2
+    new-requires-3
     returns-3)
