@@ -12,6 +12,8 @@ pub mod TableLaws
 pub mod OverlapLaws
 pub mod CertifyLawsBound
 pub mod CertifyLawsTotal
+pub mod CertifyLawsVerdict
+pub mod CertifyLawsCheck
 pub mod CertifyLawsCount
 pub mod CertifyLawsTable
 pub mod CertifyLawsSlack

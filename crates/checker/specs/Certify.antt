@@ -11,8 +11,10 @@ use Rattle.mathematics.specs.Lists.{All}
 use Rattle.mathematics.specs.Cover.{vert, arc, sameItem, oneIf}
 use Rattle.mathematics.specs.Bound.{readsThrough, vertexSlack, arcSlack, vertexSlacksHold, arcSlackHolds}
 use Rattle.checker.specs.Limits.{maxVertices, maxArcs}
-use Rattle.checker.specs.GraphForm.{vertexCount, arcCount, vertexDemand, arcAt, arcDemand}
+use Rattle.checker.specs.GraphForm.{vertexCount, arcCount, readCount, vertexDemand, arcAt, arcDemand}
 use Rattle.checker.specs.GraphOf.{vertexOf, arcOf, graphOf}
+use Rattle.checker.specs.declared.Verdict.{Verdict}
+use Rattle.checker.specs.GraphFaults.{then, firstFault}
 use Rattle.checker.specs.AnswerForm.{inMarkAt, outMarkAt, firstPathAt, marksOf}
 use Rattle.checker.specs.AnswerFaults.{markFault}
 use Rattle.checker.specs.Tallies.{arcItem}
@@ -40,6 +42,17 @@ vertexSlackFault s t v = cond (vertexSlacksHold whole (graphOf s) (marksOf t) v 
 
 unfoldable pub arcSlackFault : List ℕ → List ℕ → ℕ → ℕ
 arcSlackFault s t a = cond (arcSlackHolds whole (marksOf t) (arcOf s a)) 0 21
+
+-- all of 19: vertices, then arcs, then reads
+unfoldable pub unmetVerdict : List ℕ → List ℕ → List ℕ → List Bool → Verdict
+unmetVerdict s vertexTotals arcTotals met =
+    then (firstFault (vertexUnmet s vertexTotals) (λ v. v) (vertexCount s) 0)
+    (then (firstFault (arcUnmet s arcTotals) (arcPlace s) (arcCount s) 0) (firstFault (readUnmet met) (readPlace s) (readCount s) 0))
+
+-- all of 21: vertices, then arcs
+unfoldable pub slacksVerdict : List ℕ → List ℕ → Verdict
+slacksVerdict s t =
+    then (firstFault (vertexSlackFault s t) (λ v. v) (vertexCount s) 0) (firstFault (arcSlackFault s t) (arcPlace s) (arcCount s) 0)
 
 -- the marks of n vertices stand in the answer and are in range
 pub record MarksStand (n : ℕ) (t : List ℕ) : Type 0 where
