@@ -18,6 +18,15 @@ some-digit : (j x : ℕ) → 1 ≤ x → x < 10 ^ j → 1 ≤ j
 some-digit zero x a b = absurd (omega arith)
 some-digit (suc j) x a b = omega arith
 
+-- without its last digit a number of two digits or more has one digit less
+pub one-digit-less : (k n : ℕ) → 10 ≤ n → n < 10 ^ k → (1 ≤ k - 1) × (n / 10 < 10 ^ (k - 1))
+one-digit-less zero n l h = absurd (omega arith)
+one-digit-less (suc j) n l h =
+    let e : suc j - 1 ≡ j = omega arith in
+    let p : n < 10 ^ j * 10 = rw pow-suc at h in
+    let less : n / 10 < 10 ^ j = omega arith in
+    rw e (some-digit j (n / 10) (omega arith) less, less)
+
 -- the digits of n from the place `first` on are stored, and the digits of `rest` are still to come before them
 pub record DigitsLeft (n first rest : ℕ) (digits : List ℕ) : Type 0 where
   pub some : 1 ≤ first
@@ -42,13 +51,12 @@ pub digits-turn : {n first rest : ℕ} {digits : List ℕ} → 9 < rest → Digi
 unfolding digitsBefore
 digits-turn {n} {first} {rest} {digits} l h =
     let e : first ≡ suc (first - 1) = omega (arith, h .some) in
-    let p : rest < 10 ^ (first - 1) * 10 = rw pow-suc at (subst (λ k. rest < 10 ^ k) e (h .below)) in
-    let below : rest / 10 < 10 ^ (first - 1) = omega arith in
+    let less = one-digit-less first rest l (h .below) in
     let inside : first - 1 < length digits = omega (arith, h .long, h .few, h .some) in
     record {
-      some = some-digit (first - 1) (rest / 10) (omega arith) below;
+      some = less .0;
       few = omega (arith, h .few);
-      below = below;
+      below = less .1;
       long = length-set digits (first - 1) (48 + rest % 10) ∙ h .long;
       whole =
           ap (digitsBefore (first - 1) (rest / 10)) (drop-set digits (first - 1) (48 + rest % 10) inside) ∙

@@ -1,2 +1,6 @@
 pub mod Storing
 pub mod Digits
+pub mod Lengths
+pub mod Accepted
+pub mod Writing
+pub mod PathLines

@@ -52,6 +52,14 @@ module _ {before : List ℕ} {start : ℕ} {text out : List ℕ} {at : ℕ} wher
   pub still-inside : {x : ℕ} {b : List ℕ} → Still before start text out at (x ∷ b) → at < length out
   still-inside {x} {b} h = omega (arith, h .ends, h .long, h .room)
 
+  -- there is room for all of the rest
+  pub still-fits : {rest : List ℕ} → Still before start text out at rest → Room out at rest
+  still-fits h = omega (arith, h .ends, h .long, h .room)
+
+  -- all of the rest is stored by a call
+  pub still-last : {a after : List ℕ} {next : ℕ} → Puts out at a after next → Still before start text out at a → Puts before start text after next
+  still-last p h = record { bytes = p .bytes ∙ h .bytes; ends = p .ends ∙ h .ends }
+
   -- nothing is left to store
   pub still-none : Still before start text out at [] → Puts before start text out at
   still-none h = record { bytes = h .bytes; ends = sym (add-zero at) ∙ h .ends }

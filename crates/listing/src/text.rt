@@ -1,5 +1,5 @@
 // Numbers, words and lines of a listing, stored in a lent buffer from an index on. Each function returns the index behind what it stored.
-ghost use mathlib.Core.Path.{_≡_};
+use checker::bytes::wide;
 ghost use Rattle.listing.specs.Text.{Puts, Room, decimal, pairLine, vertexTexts, pathLine, boundLine};
 
 pub fn put_text(out: &mut [u8], at: usize, text: &[u8]) -> usize
@@ -77,10 +77,4 @@ pub fn put_bound_line(out: &mut [u8], at: usize, bound: usize) -> usize
     let end = put_number(out, first, bound);
     out[end] = b'\n';
     end + 1
-}
-
-fn wide(b: u8) -> usize
-    ensures { λ r. ⌜ r ≡ b ⌝ }
-{
-    b as usize
 }

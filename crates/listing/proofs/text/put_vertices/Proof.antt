@@ -38,7 +38,7 @@ wide-requires c κs = search needs
 put-number-requires : tie.Need-put-number-requires Inv-loop μ-loop
 put-number-requires c κs =
     still-room (decimal (c .wide .result)) _
-    (still-byte (vertex-next _ _ _ (c .before .before .before .loop-test .taken) (c .wide .ensures) (c .before .before .before .before .loop .inv .0)))
+    (still-byte (vertex-next _ _ _ (c .before .before .before .loop-test .taken) (c .wide .ensures .0) (c .before .before .before .before .loop .inv .0)))
 
 add-i : tie.Need-add-i Inv-loop μ-loop
 add-i c = search needs
@@ -50,7 +50,7 @@ loop-again : tie.Need-loop-again Inv-loop μ-loop
 loop-again c =
     let l = c .before .before .before in (
       still-next (c .before .before .put-number .ensures)
-          (still-byte (vertex-next _ _ _ (l .before .before .before .loop-test .taken) (l .wide .ensures) (l .before .before .before .before .loop .inv .0))),
+          (still-byte (vertex-next _ _ _ (l .before .before .before .loop-test .taken) (l .wide .ensures .0) (l .before .before .before .before .loop .inv .0))),
       omega arith,
     )
 
