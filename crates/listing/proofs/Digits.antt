@@ -4,6 +4,7 @@ use native.Mathlib.Nat.{le-refl, pow-suc}
 use native.Mathlib.Omega.{arith}
 use mathlib.Core.Path.{_≡_, refl, sym, ap, ap₂, subst, _∙_}
 use mathlib.Core.List.{List, [], _∷_}
+use mathlib.Core.Bool.{Bool, true, false, cond}
 use lib.ListN.{length, take, drop, set, length-set, length-drop, drop-of-length-le}
 use lib.Seq.{take-all, drop-cons, drop-set-lt, getD-set-same, lt-length-set}
 use borrow.Author.Tests.{lt-ltb, le-ltb}
@@ -13,6 +14,11 @@ use Rattle.listing.specs.Text.{digitsBefore, decimal}
 drop-set : (l : List ℕ) (j v : ℕ) → j < length l → drop j (set l j v) ≡ v ∷ drop (suc j) l
 drop-set l j v h =
     drop-cons (set l j v) j 0 (lt-length-set l j v h) ∙ ap₂ _∷_ (getD-set-same l j v 0 h) (drop-set-lt (suc j) l j v (le-refl (suc j)))
+
+-- a text chosen by a test
+pub chosen : (P : List ℕ → Type 0) (b : Bool) (x y : List ℕ) → (b ≡ true → P x) → (b ≡ false → P y) → P (cond b x y)
+chosen P true x y f g = f refl
+chosen P false x y f g = g refl
 
 some-digit : (j x : ℕ) → 1 ≤ x → x < 10 ^ j → 1 ≤ j
 some-digit zero x a b = absurd (omega arith)

@@ -1,28 +1,22 @@
 -- How long the texts of a listing are at the most, so that a lent output of so many bytes has room for it.
 use Prim.Native.Nat.{ℕ, zero, suc, _+_, _-_, _*_, _/_, _%_, _^_, _≤_, _<_}
 use native.Mathlib.Omega.{arith}
-use mathlib.Core.Path.{_≡_, refl}
+use mathlib.Core.Path.{_≡_}
 use mathlib.Core.List.{List, [], _∷_, _++_}
-use mathlib.Core.Bool.{Bool, true, false, cond}
 use lib.Dec.{ltb}
 use lib.ListN.{length, length-append}
 use borrow.Author.Tests.{ltb-false}
 use Rattle.mathematics.specs.Lists.{All}
 use Rattle.listing.specs.Text.{digit, digitsBefore, decimal, space, newline, coverWord, boundWord, refusedWord, pairLine, vertexTexts, pathLine, boundLine}
-use Rattle.listing.proofs.Digits.{one-digit-less}
-
--- a text chosen by a test
-chosen-few : (b : Bool) (x y : List ℕ) (k : ℕ) → length x ≤ k → (b ≡ false → length y ≤ k) → length (cond b x y) ≤ k
-chosen-few true x y k h g = h
-chosen-few false x y k h g = g refl
+use Rattle.listing.proofs.Digits.{chosen, one-digit-less}
 
 digits-few : (places n : ℕ) (after : List ℕ) → length (digitsBefore places n after) ≤ places + length after
 unfolding digitsBefore
 digits-few zero n after = omega arith
 digits-few (suc places) n after =
     let more = digits-few places (n / 10) (digit (n % 10) ∷ after) in
-    chosen-few (ltb n 10) (digit n ∷ after) (digitsBefore places (n / 10) (digit (n % 10) ∷ after)) (suc places + length after) (omega arith)
-    (λ e. omega (arith, more))
+    chosen (λ l. length l ≤ suc places + length after) (ltb n 10) (digit n ∷ after) (digitsBefore places (n / 10) (digit (n % 10) ∷ after))
+    (λ e. omega arith) (λ e. omega (arith, more))
 
 -- each number of the machine has at most 20 digits
 decimal-few : (n : ℕ) → length (decimal n) ≤ 20
@@ -34,7 +28,7 @@ unfolding digitsBefore
 digits-below zero k n after some h = omega arith
 digits-below (suc places) k n after some h =
     let more = digits-below places (k - 1) (n / 10) (digit (n % 10) ∷ after) in
-    chosen-few (ltb n 10) (digit n ∷ after) (digitsBefore places (n / 10) (digit (n % 10) ∷ after)) (k + length after) (omega arith)
+    chosen (λ l. length l ≤ k + length after) (ltb n 10) (digit n ∷ after) (digitsBefore places (n / 10) (digit (n % 10) ∷ after)) (λ e. omega arith)
     (λ e.
     let l = one-digit-less k n (ltb-false n 10 e) h in
     omega (arith, more (l .0) (l .1)))

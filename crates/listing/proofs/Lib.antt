@@ -4,3 +4,4 @@ pub mod Lengths
 pub mod Accepted
 pub mod Writing
 pub mod PathLines
+pub mod Decimal

@@ -10,7 +10,7 @@ use Rattle.listing.proofs.list_refusal.Statement.{statement}
 use Rattle.listing.proofs.list_refusal.Tie as tie
 
 returns : tie.Need-returns
-returns c = (writes-nothing _ _ (c .if1 .taken), refl)
+returns c = (writes-nothing _ _ (c .if1 .taken), (refl, refl))
 
 slice-aggregate-put-pair-line : tie.Need-slice-aggregate-put-pair-line
 slice-aggregate-put-pair-line c = search needs
@@ -26,7 +26,7 @@ same-length c = search needs
 returns-2 : tie.Need-returns-2
 returns-2 c =
     let s = c .before .before .before .before .before .before .before in
-    (writes-text (c .before .before .before .before .before .if1 .left) (omega (arith, pair-line-few refusedWord (s .args .number) (s .args .place))) (c .before .before .put-pair-line .ensures), refl)
+    (writes-text (c .before .before .before .before .before .if1 .left) (omega (arith, pair-line-few refusedWord (s .args .number) (s .args .place))) (c .before .before .put-pair-line .ensures), (refl, refl))
 
 pub list-refusal-spec : {M : Type 1} → statement M
 list-refusal-spec =
