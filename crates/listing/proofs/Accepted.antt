@@ -51,12 +51,9 @@ pub answer-long : (s t : List ℕ) → checkVerdict s t .number ≡ 0 → firstP
 answer-long s t e = number-zero-accepted s t e .header .long
 
 -- the next path's record begins where the record of path k ends
-pub path-at-next : (t : List ℕ) (k at : ℕ) → pathAt t (k + 1) at ≡ pathEnd t (pathAt t k at)
-path-at-next t k at = rw add-one (by k at)
-  where
-    by : (k at : ℕ) → pathAt t (suc k) at ≡ pathEnd t (pathAt t k at)
-    by zero at = refl
-    by (suc k) at = by k (pathEnd t at)
+pub path-at-next : (t : List ℕ) (k at : ℕ) → pathAt t (suc k) at ≡ pathEnd t (pathAt t k at)
+path-at-next t zero at = refl
+path-at-next t (suc k) at = path-at-next t k (pathEnd t at)
 
 -- path k of the answer t for the graph s: its record, which begins at an offset, is right, and its vertices are handed out
 pub record PathHere (s t : List ℕ) (k : ℕ) : Type 0 where

@@ -5,3 +5,4 @@ pub mod Accepted
 pub mod Writing
 pub mod PathLines
 pub mod Decimal
+pub mod Listed

@@ -1,6 +1,7 @@
 -- The lines of the paths of an accepted answer: what the loop that stores them keeps from turn to turn.
 use Prim.Native.Nat.{ℕ, _+_, _-_, _≤_, _<_}
 use native.Mathlib.Nat.{sub-zero}
+use native.Mathlib.Numerals.{add-one}
 use native.Mathlib.Omega.{arith}
 use mathlib.Core.Path.{_≡_, refl, sym, ap, subst, _∙_}
 use mathlib.Core.List.{List, _++_}
@@ -46,7 +47,7 @@ module _ {s t before : List ℕ} {start count : ℕ} {out : List ℕ} {path end 
         accepted = h .accepted;
         counted = h .counted;
         passed = omega arith;
-        placed = e ∙ (ap (pathEnd t) (h .placed) ∙ sym (path-at-next t k (firstPathAt (vertexCount s))));
+        placed = e ∙ (ap (pathEnd t) (h .placed) ∙ sym (rw add-one (path-at-next t k (firstPathAt (vertexCount s)))));
         left = still-next p (line-next weight vertices w v);
       }
 
