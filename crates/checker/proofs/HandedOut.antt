@@ -31,7 +31,7 @@ number-zero-handed-out s t k e =
     (h .0, ltb→lt _ _ (held (ltb k (pathCount t)) 22 0 nothingRefused (h .1) .0))
 
 module _ (t : List ℕ) where
-  paths-length : (count at : ℕ) → length (pathsFrom t count at) ≡ count
+  pub paths-length : (count at : ℕ) → length (pathsFrom t count at) ≡ count
   paths-length zero at = refl
   paths-length (suc count) at = ap suc (paths-length count (pathEnd t at))
 

@@ -30,7 +30,7 @@ ghost use Rattle.checker.specs.Certify.{MarksStand, PathsStand};
 ghost use Rattle.checker.specs.Check.{certificateVerdict, answerVerdict, checkVerdict, handOutVerdict, pathAt, handedOut};
 
 // The price that an answer states.
-fn stated_price(t: &[u8]) -> usize
+pub fn stated_price(t: &[u8]) -> usize
     requires { ⌜ 15 ≤ length (now t) ⌝ }
     ensures { λ r. ⌜ r ≡ statedPrice (now (t .entry)) ⌝ }
 {

@@ -1,0 +1,65 @@
+-- Document 01, "The two programs": the listing of an answer form t for a graph form s. "First line: number of paths, price. Then per path its
+-- weight and vertices. Last line: the bound. A refusal prints one line, `refused`, number, place."
+use Prim.Native.Nat.{ℕ, zero, suc, _≤_}
+use mathlib.Core.Path.{_≡_}
+use mathlib.Core.List.{List, [], _++_}
+use mathlib.Core.Bool.{cond}
+use lib.Dec.{ltb, leb, eqb}
+use lib.ListN.{length, take, drop}
+use lib.IntN.{natAbs}
+use Rattle.mathematics.specs.Price.{whole}
+use Rattle.mathematics.specs.Cover.{price}
+use Rattle.mathematics.specs.Bound.{bound}
+use Rattle.checker.specs.GraphForm.{vertexCount}
+use Rattle.checker.specs.GraphOf.{graphOf}
+use Rattle.checker.specs.GraphFaults.{graphVerdict}
+use Rattle.checker.specs.AnswerForm.{pathCount, marksOf, firstPathAt, pathWeight, coverOf}
+use Rattle.checker.specs.Check.{checkVerdict, pathAt, handedOut}
+use Rattle.listing.specs.Text.{coverLine, pathLine, boundLine, refusedLine}
+
+-- the weight of path k
+abbrev pub weightOf : List ℕ → List ℕ → ℕ → ℕ
+weightOf s t k = pathWeight t (pathAt t k (firstPathAt (vertexCount s)))
+
+-- the lines of count paths, the first of them path k: its vertices are what the checker hands out
+abbrev pub pathLines : List ℕ → List ℕ → ℕ → ℕ → List ℕ
+pathLines s t zero k = []
+pathLines s t (suc count) k = pathLine (weightOf s t k) (handedOut s t k) ++ pathLines s t count (suc k)
+
+-- the listing of an accepted answer
+unfoldable pub coverListing : List ℕ → List ℕ → List ℕ
+coverListing s t =
+    coverLine (pathCount t) (natAbs (price whole (graphOf s) (coverOf (vertexCount s) t))) ++
+    (pathLines s t (pathCount t) 0 ++ boundLine (natAbs (bound whole (graphOf s) (marksOf t))))
+
+-- the listing
+unfoldable pub listingOf : List ℕ → List ℕ → List ℕ
+listingOf s t =
+    cond (eqb (checkVerdict s t .number) 0) (coverListing s t) (refusedLine (checkVerdict s t .number) (checkVerdict s t .place))
+
+-- "one longer than 65,536 bytes prints `refused 1 0` for a graph and `refused 11 0` for an answer whose graph reads"
+abbrev pub longestInput : ℕ
+longestInput = 65_536
+
+-- the listing of what the two inputs hold, of any length
+unfoldable pub inputsListing : List ℕ → List ℕ → List ℕ
+inputsListing s t =
+    cond (ltb longestInput (length s)) (refusedLine 1 0)
+    (cond (leb (length t) longestInput) (listingOf s t)
+    (cond (eqb (graphVerdict s .number) 0) (refusedLine 11 0) (refusedLine (graphVerdict s .number) (graphVerdict s .place))))
+
+-- As many bytes as a listing can have: 6 + 3 + 1 + 20 + 1 in the first line, 9 + 64 · 3 + 1 in each of 464 lines of paths, 6 + 20 + 1 in the last.
+abbrev pub room : ℕ
+room = 93_786
+
+-- the text to write to a lent output: none where the output is shorter than the longest listing
+unfoldable pub fitted : List ℕ → List ℕ → List ℕ
+fitted out text = cond (ltb (length out) room) [] text
+
+-- a call wrote the text at the front of the lent output, kept every byte behind it, and returned how many bytes it wrote
+pub record Writes (before text after : List ℕ) (written : ℕ) : Type 0 where
+  pub bytes : after ≡ text ++ drop written before
+  pub counted : written ≡ length text
+  -- what follows from these, so that a caller can take the bytes written with no proof
+  pub fits : written ≤ length after
+  pub front : written ≡ length (take written after)
