@@ -1,5 +1,5 @@
 -- Number 22: the bound as one sum of numbers that are not below 0, where no slack is below 0.
-use Prim.Native.Nat.{ℕ, zero, suc, _+_, _-_, _*_, _<_, _≤_, max}
+use Prim.Native.Nat.{ℕ, zero, suc, _+_, _-_, _*_, _<_, _≤_}
 use native.Mathlib.Nat.{zero-add, sub-zero, zero-mul, suc-mul, mul-le-mul}
 use native.Mathlib.Omega.{arith}
 use native.Mathlib.Decide.{decLe}
@@ -38,7 +38,7 @@ module _ (s t : List ℕ) (v i o : ℕ) (into : signed32 t (inMarkAt v) ≡ sub�
       go (yes h) = h
       go (no h) = absurd (omega (arith, vertex-crossed s t v i o into out (omega arith), held))
 
-  pub vertex-part : (d reads : ℕ) → d ≡ max (vertexDemand s v) reads → d ≤ maxDemand → i ≤ 4000000000 → Part (vertexPart s t v reads) (d * (i - o))
+  pub vertex-part : (d reads : ℕ) → d ≡ vertexDemand s v - reads + reads → d ≤ maxDemand → i ≤ 4000000000 → Part (vertexPart s t v reads) (d * (i - o))
   unfolding vertexPart
   vertex-part d reads e low few =
       record {
@@ -54,7 +54,7 @@ module _ (s t : List ℕ) (a u v cost i o : ℕ) (read : ArcRead s a u v cost) (
       go (yes h) = h
       go (no h) = absurd (omega (arith, arc-crossed s t a u v cost i o read into out (omega arith), held))
 
-  pub arc-part : (d reads : ℕ) → d ≡ max (arcDemand s (arcAt s a)) reads → d ≤ maxDemand → cost ≤ maxCost → o ≤ 4000000000 → Part (arcPart s t a reads) (d * (cost + o - i))
+  pub arc-part : (d reads : ℕ) → d ≡ arcDemand s (arcAt s a) - reads + reads → d ≤ maxDemand → cost ≤ maxCost → o ≤ 4000000000 → Part (arcPart s t a reads) (d * (cost + o - i))
   unfolding arcPart
   arc-part d reads e low few marked =
       record {

@@ -1,6 +1,6 @@
--- The bound of document 01 is the sum of the parts of vertices and arcs, where no slack is below 0: a rest and the reads through an item are its demand, or the
--- reads where those are more, and the terms of the reads are the slacks along them.
-use Prim.Native.Nat.{ℕ, zero, suc, _+_, _-_, _*_, _<_, _≤_, max}
+-- The bound of document 01 is the sum of the parts of vertices and arcs, where no slack is below 0: a part is an item's rest and the reads through it, times its
+-- slack, since the terms of the reads are the slacks along them.
+use Prim.Native.Nat.{ℕ, zero, suc, _+_, _-_, _*_, _<_, _≤_}
 use native.Mathlib.Nat.{zero-mul, suc-mul}
 use native.Mathlib.Omega.{arith}
 use mathlib.Core.Path.{_≡_, refl, sym, ap, ap₂, subst, _∙_}
@@ -68,7 +68,7 @@ module _ (s t : List ℕ) where
         added (record { item = vert v; demand = vertexDemand s v }) ≡ pos (vertexPart s t v (getD vertexReads v 0))
     unfolding vertexPart
     vertex-added v e held =
-        let most : vertexDemand s v - readsThrough (vert v) rs + readsThrough (vert v) rs ≡ max (vertexDemand s v) (getD vertexReads v 0) = omega (arith, e) in
+        let most : vertexDemand s v - readsThrough (vert v) rs + readsThrough (vert v) rs ≡ vertexDemand s v - getD vertexReads v 0 + getD vertexReads v 0 = omega (arith, e) in
         ap₂ (times whole) most (vertex-not-negative v held) ∙ times-number _ _
 
     vertices-added : (n k : ℕ) → ((v : ℕ) → k ≤ v → v < k + n → (getD vertexReads v 0 ≡ readsThrough (vert v) rs) × (vertexSlackFault s t v ≡ 0)) →
@@ -83,7 +83,7 @@ module _ (s t : List ℕ) where
         added (arcAsk (arcOf s a)) ≡ pos (arcPart s t a (getD arcReads a 0))
     unfolding arcPart
     arc-added a e held own =
-        let most : arcDemand s (arcAt s a) - readsThrough (arcItem s a) rs + readsThrough (arcItem s a) rs ≡ max (arcDemand s (arcAt s a)) (getD arcReads a 0) = omega (arith, e) in
+        let most : arcDemand s (arcAt s a) - readsThrough (arcItem s a) rs + readsThrough (arcItem s a) rs ≡ arcDemand s (arcAt s a) - getD arcReads a 0 + getD arcReads a 0 = omega (arith, e) in
         ap₂ (times whole) most (own ∙ arc-not-negative a held) ∙ times-number _ _
 
     arcs-added : (n k : ℕ) → ((a : ℕ) → k ≤ a → a < k + n → (getD arcReads a 0 ≡ readsThrough (arcItem s a) rs) × (arcSlackFault s t a ≡ 0)) →

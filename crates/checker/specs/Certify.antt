@@ -1,5 +1,5 @@
 -- Numbers 19, 21 and 22 as the code reckons them: item by item, by the fields of the two forms, with numbers that are not below 0.
-use Prim.Native.Nat.{ℕ, zero, suc, _+_, _*_, _<_, _≤_, max}
+use Prim.Native.Nat.{ℕ, zero, suc, _+_, _*_, _-_, _<_, _≤_}
 use mathlib.Core.Path.{_≡_}
 use mathlib.Core.List.{List, []}
 use mathlib.Core.Bool.{Bool, true, false, cond}
@@ -72,12 +72,12 @@ pub record Counted (s : List ℕ) (rs : List (List ℕ)) (vertexReads arcReads :
   pub vertices-low : (v : ℕ) → v < vertexCount s → getD vertexReads v 0 ≤ 10000
   pub arcs-low : (a : ℕ) → a < arcCount s → getD arcReads a 0 ≤ 10000
 
--- 22: what vertex v and arc a add to the bound, whose slacks are not below 0: its demand, or the prepared reads through it where those are more, times its slack
+-- 22: what vertex v and arc a add to the bound, whose slacks are not below 0: its rest and the prepared reads through it, times its slack
 unfoldable pub vertexPart : List ℕ → List ℕ → ℕ → ℕ → ℕ
-vertexPart s t v reads = max (vertexDemand s v) reads * natAbs (vertexSlack whole (marksOf t) v)
+vertexPart s t v reads = (vertexDemand s v - reads + reads) * natAbs (vertexSlack whole (marksOf t) v)
 
 unfoldable pub arcPart : List ℕ → List ℕ → ℕ → ℕ → ℕ
-arcPart s t a reads = max (arcDemand s (arcAt s a)) reads * natAbs (arcSlack whole (marksOf t) (arcOf s a))
+arcPart s t a reads = (arcDemand s (arcAt s a) - reads + reads) * natAbs (arcSlack whole (marksOf t) (arcOf s a))
 
 -- f at first, first + 1, .., count of them, in total
 unfoldable pub sumFrom : (ℕ → ℕ) → ℕ → ℕ → ℕ

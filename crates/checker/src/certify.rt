@@ -10,7 +10,7 @@ use crate::bytes::wide;
 use crate::reader::find_arc;
 use crate::reads::prepare_reads;
 ghost use mathlib.Core.Path.{_≡_};
-ghost use Prim.Native.Nat.{ℕ, _+_, _*_, _<_, _≤_, max};
+ghost use Prim.Native.Nat.{ℕ, _+_, _*_, _-_, _<_, _≤_};
 ghost use lib.ListN.{length, getD, take};
 ghost use lib.IntN.{pos};
 ghost use Rattle.mathematics.specs.Price.{whole};
@@ -290,14 +290,14 @@ pub fn count_reads(
     }
 }
 
-// The greater of two numbers.
-fn greater(a: usize, b: usize) -> usize
-    ensures { λ r. ⌜ r ≡ max a b ⌝ }
+// An item's rest: its demand less the prepared reads through it, and 0 where those are more.
+fn rest(demand: usize, reads: usize) -> usize
+    ensures { λ r. ⌜ r ≡ demand - reads ⌝ }
 {
-    if a < b {
-        return b;
+    if demand < reads {
+        return 0;
     }
-    a
+    demand - reads
 }
 
 // What vertex v adds to the bound, with that many prepared reads through it: no slack is below 0 here.
@@ -306,7 +306,7 @@ fn vertex_part(s: &[u8], t: &[u8], v: usize, reads: usize) -> usize
     requires { ⌜ NoneBelow (now s) (now t) × (reads ≤ 10000) ⌝ }
     ensures { λ r. ⌜ Part (vertexPart (now (s .entry)) (now (t .entry)) v reads) r ⌝ }
 {
-    let owed = greater(be32(s, Graph::HEADER + Graph::VERTEX * v + 1), reads);
+    let owed = rest(be32(s, Graph::HEADER + Graph::VERTEX * v + 1), reads) + reads;
     let into = mark_plus(t, Answer::HEADER + Answer::MARKS * v);
     let out = mark_plus(t, Answer::HEADER + Answer::MARKS * v + Answer::MARK);
     owed * (into - out)
@@ -324,7 +324,8 @@ fn arc_part(s: &[u8], t: &[u8], n: usize, a: usize, reads: usize) -> usize
         Answer::HEADER + Answer::MARKS * wide(s[at]) + Answer::MARK,
     );
     let into = mark_plus(t, Answer::HEADER + Answer::MARKS * wide(s[at + 1]));
-    greater(be32(s, at + 6), reads) * (be32(s, at + 2) + out - into)
+    let owed = rest(be32(s, at + 6), reads) + reads;
+    owed * (be32(s, at + 2) + out - into)
 }
 
 // The parts of the vertices, in total.

@@ -1,6 +1,3 @@
-use mathlib.Core.Path.{_≡_, ap, _∙_}
-use Prim.Native.Nat.{max}
-use Rattle.checker.specs.GraphForm.{arcAt, arcDemand, arcCost}
 -- `checker::certify::arc_part` gives an arc's part of the bound: its slack is a difference of two marks with the limit added.
 use native.Mathlib.Omega.{arith}
 use Prim.Native.Nat.{_-_, _+_}
@@ -65,8 +62,11 @@ add-be32 c = search needs
 be32-requires : tie.Need-be32-requires
 be32-requires c κs = omega (arith, c .before .before .before .before .before .before .before .before .pre .0 .0 .arcs .each (c .before .before .before .before .before .before .before .before .args .a) (search needs) .whole)
 
-greater-requires : tie.Need-greater-requires
-greater-requires c κs = search needs
+rest-requires : tie.Need-rest-requires
+rest-requires c κs = search needs
+
+add-owed : tie.Need-add-owed
+add-owed c = search needs
 
 add-be32-2 : tie.Need-add-be32-2
 add-be32-2 c = search needs
@@ -89,7 +89,7 @@ mul-result c =
     let right = p .0 .0 .arcs .each (c .before .before .before .before .before .before .before .before .before .before .before .args .a) (p .0 .3) in
     let read = arc-read (p .0 .2) (c .before .before .before .before .before .before .before .wide .ensures .0) (c .before .before .before .before .wide2 .ensures .0) (c .be322 .ensures .0) in
     let demand = arc-demand-read (c .before .before .before .before .before .before .before .before .before .before .before .args .s .now) (c .before .before .before .before .before .before .before .before .before .before .before .args .n) (c .before .before .before .before .before .before .before .before .before .before .before .args .a) (c .before .before .be32 .result) (p .0 .2) (c .before .before .be32 .ensures .0) in
-    omega (arith, small (c .before .greater .result) (c .be322 .result + c .before .before .before .before .before .before .mark-plus .result - c .before .before .before .mark-plus2 .result) (omega (arith, right .low-demand, demand, c .before .greater .ensures, p .1 .1)) (omega (arith, right .low-cost, read .costs, c .before .before .before .before .before .before .mark-plus .ensures .1)))
+    omega (arith, small (c .before .rest .result + c .before .before .before .before .before .before .before .before .before .before .before .args .reads) (c .be322 .result + c .before .before .before .before .before .before .mark-plus .result - c .before .before .before .mark-plus2 .result) (omega (arith, right .low-demand, demand, c .before .rest .ensures, p .1 .1)) (omega (arith, right .low-cost, read .costs, c .before .before .before .before .before .before .mark-plus .ensures .1)))
 
 returns : tie.Need-returns
 returns c =
@@ -97,7 +97,7 @@ returns c =
     let right = p .0 .0 .arcs .each (c .before .before .before .before .before .before .before .before .before .before .before .args .a) (p .0 .3) in
     let read = arc-read (p .0 .2) (c .before .before .before .before .before .before .before .wide .ensures .0) (c .before .before .before .before .wide2 .ensures .0) (c .be322 .ensures .0) in
     let demand = arc-demand-read (c .before .before .before .before .before .before .before .before .before .before .before .args .s .now) (c .before .before .before .before .before .before .before .before .before .before .before .args .n) (c .before .before .before .before .before .before .before .before .before .before .before .args .a) (c .before .before .be32 .result) (p .0 .2) (c .before .before .be32 .ensures .0) in
-    arc-part _ _ _ _ _ _ (c .before .before .before .mark-plus2 .result) (c .before .before .before .before .before .before .mark-plus .result) read (c .before .before .before .mark-plus2 .ensures .0) (c .before .before .before .before .before .before .mark-plus .ensures .0) (p .1 .0 .arcs (c .before .before .before .before .before .before .before .before .before .before .before .args .a) (p .0 .3)) _ _ (c .before .greater .ensures ∙ ap (λ x. max x (c .before .before .before .before .before .before .before .before .before .before .before .args .reads)) demand) (omega (arith, right .low-demand, demand, c .before .greater .ensures, p .1 .1)) (omega (arith, right .low-cost, read .costs)) (c .before .before .before .before .before .before .mark-plus .ensures .1)
+    arc-part _ _ _ _ _ _ (c .before .before .before .mark-plus2 .result) (c .before .before .before .before .before .before .mark-plus .result) read (c .before .before .before .mark-plus2 .ensures .0) (c .before .before .before .before .before .before .mark-plus .ensures .0) (p .1 .0 .arcs (c .before .before .before .before .before .before .before .before .before .before .before .args .a) (p .0 .3)) _ _ (omega (arith, demand, c .before .rest .ensures)) (omega (arith, right .low-demand, demand, c .before .rest .ensures, p .1 .1)) (omega (arith, right .low-cost, read .costs)) (c .before .before .before .before .before .before .mark-plus .ensures .1)
 
 pub arc-part-spec : {M : Type 1} → statement M
 arc-part-spec =
@@ -121,7 +121,8 @@ arc-part-spec =
     mark-plus-requires-2
     add-be32
     be32-requires
-    greater-requires
+    rest-requires
+    add-owed
     add-be32-2
     be32-requires-2
     add-result

@@ -1,6 +1,6 @@
 -- `checker::certify::vertex_part` gives a vertex's part of the bound: its slack is the difference of its marks with the limit added.
 use native.Mathlib.Omega.{arith}
-use Prim.Native.Nat.{_-_}
+use Prim.Native.Nat.{_+_, _-_}
 use Rattle.checker.proofs.CertifyLawsBound.{small, vertex-ordered, vertex-part}
 use borrow.Author.Needs.{needs}
 use borrow.Author.Needs.{needs}
@@ -19,8 +19,11 @@ add-be32-2 c = search needs
 be32-requires : tie.Need-be32-requires
 be32-requires c κs = omega (arith, c .before .before .pre .0 .0 .vertices (c .before .before .args .v) (c .before .before .pre .0 .2) .whole)
 
-greater-requires : tie.Need-greater-requires
-greater-requires c κs = search needs
+rest-requires : tie.Need-rest-requires
+rest-requires c κs = search needs
+
+add-owed : tie.Need-add-owed
+add-owed c = search needs
 
 mul-mark-plus : tie.Need-mul-mark-plus
 mul-mark-plus c = search needs
@@ -49,12 +52,12 @@ sub-result c = vertex-ordered _ _ _ (c .before .mark-plus .result) (c .mark-plus
 mul-result : tie.Need-mul-result
 mul-result c =
     let low = c .before .before .before .before .before .before .pre .0 .0 .vertices (c .before .before .before .before .before .before .args .v) (c .before .before .before .before .before .before .pre .0 .2) .low-demand in
-    omega (arith, small (c .before .before .greater .result) (c .before .mark-plus .result - c .mark-plus2 .result) (omega arith) (omega arith))
+    omega (arith, small (c .before .before .rest .result + c .before .before .before .before .before .before .args .reads) (c .before .mark-plus .result - c .mark-plus2 .result) (omega arith) (omega arith))
 
 returns : tie.Need-returns
 returns c =
     let low = c .before .before .before .before .before .before .pre .0 .0 .vertices (c .before .before .before .before .before .before .args .v) (c .before .before .before .before .before .before .pre .0 .2) .low-demand in
-    vertex-part _ _ _ (c .before .mark-plus .result) (c .mark-plus2 .result) (c .before .mark-plus .ensures .0) (c .mark-plus2 .ensures .0) (c .before .before .before .before .before .before .pre .1 .0 .vertices (c .before .before .before .before .before .before .args .v) (search needs)) _ _ (search needs) (omega arith) (search needs)
+    vertex-part _ _ _ (c .before .mark-plus .result) (c .mark-plus2 .result) (c .before .mark-plus .ensures .0) (c .mark-plus2 .ensures .0) (c .before .before .before .before .before .before .pre .1 .0 .vertices (c .before .before .before .before .before .before .args .v) (search needs)) _ _ (omega arith) (omega arith) (search needs)
 
 pub vertex-part-spec : {M : Type 1} → statement M
 vertex-part-spec =
@@ -64,7 +67,8 @@ vertex-part-spec =
     add-be32
     add-be32-2
     be32-requires
-    greater-requires
+    rest-requires
+    add-owed
     mul-mark-plus
     add-mark-plus
     mark-plus-requires
