@@ -2,6 +2,10 @@
 pub mod Scan
 pub mod HeaderLaws
 pub mod RecordLaws
+pub mod AnswerLaws
+pub mod AnswerReads
+pub mod AnswerWalk
+pub mod AnswerPaths
 pub mod ArcLaws
 pub mod WalkLaws
 pub mod ReadLaws

@@ -9,5 +9,6 @@ pub mod Empty
 pub mod AnswerForm
 pub mod AnswerFaults
 pub mod Check
+pub mod Tallies
 pub mod Encode
 pub mod ReadTable

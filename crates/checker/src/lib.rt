@@ -1,5 +1,6 @@
 // Reading and checking: the layer that takes every byte string, checks it itself and comes to an end.
 // The definitions that the contracts cite are in specs/, in document 01's words and order.
+pub mod answers;
 pub mod bytes;
 pub mod reader;
 pub mod reads;
