@@ -14,6 +14,7 @@ pub mod CertifyLawsBound
 pub mod CertifyLawsTotal
 pub mod CertifyLawsVerdict
 pub mod CertifyLawsCheck
+pub mod CertifyLawsHandOut
 pub mod CertifyLawsCount
 pub mod CertifyLawsTable
 pub mod CertifyLawsSlack

@@ -15,7 +15,7 @@ use Rattle.checker.specs.GraphForm.{vertexCount, arcCount, readCount, ve
 use Rattle.checker.specs.GraphOf.{vertexOf, arcOf, graphOf}
 use Rattle.checker.specs.declared.Verdict.{Verdict}
 use Rattle.checker.specs.GraphFaults.{then, firstFault}
-use Rattle.checker.specs.AnswerForm.{inMarkAt, outMarkAt, firstPathAt, marksOf}
+use Rattle.checker.specs.AnswerForm.{inMarkAt, outMarkAt, firstPathAt, pathEnd, marksOf}
 use Rattle.checker.specs.AnswerFaults.{markFault}
 use Rattle.checker.specs.Tallies.{arcItem}
 
@@ -111,3 +111,8 @@ pub record Part (expected r : ℕ) : Type 0 where
 pub record Sum (expected parts r : ℕ) : Type 0 where
   pub is : r ≡ expected
   pub low : r ≤ 4_001_000_000_000_000 * parts
+
+-- the records of count paths, the first at an offset, lie within the answer
+abbrev pub PathsStand : List ℕ → ℕ → ℕ → Type 0
+PathsStand t zero at = Unit {0}
+PathsStand t (suc count) at = (pathEnd t at ≤ length t) × PathsStand t count (pathEnd t at)

@@ -15,7 +15,7 @@ use crate::reader::first_arcs;
 use crate::reader::read_graph;
 ghost use mathlib.Core.Path.{_≡_};
 ghost use mathlib.Core.List.{[]};
-ghost use Prim.Native.Nat.{_≤_, _<_};
+ghost use Prim.Native.Nat.{_+_, _≤_};
 ghost use lib.ListN.{length};
 ghost use lib.IntN.{pos};
 ghost use Rattle.mathematics.specs.Price.{whole};
@@ -23,11 +23,11 @@ ghost use Rattle.checker.specs.GraphForm.{vertexCount};
 ghost use Rattle.checker.specs.GraphOf.{graphOf};
 ghost use Rattle.checker.specs.GraphReads.{Reads};
 ghost use Rattle.checker.specs.ArcTable.{ArcTable};
-ghost use Rattle.checker.specs.AnswerForm.{statedPrice, pathCount, marksOf, firstPathAt, coverOf};
+ghost use Rattle.checker.specs.AnswerForm.{statedPrice, pathCount, marksOf, firstPathAt, pathEnd, coverOf};
 ghost use Rattle.checker.specs.AnswerFaults.{pathsVerdict};
 ghost use Rattle.checker.specs.Tallies.{Tallied};
-ghost use Rattle.checker.specs.Certify.{MarksStand};
-ghost use Rattle.checker.specs.Check.{certificateVerdict, answerVerdict, checkVerdict, handOutVerdict, handedOut};
+ghost use Rattle.checker.specs.Certify.{MarksStand, PathsStand};
+ghost use Rattle.checker.specs.Check.{certificateVerdict, answerVerdict, checkVerdict, handOutVerdict, pathAt, handedOut};
 
 // The price that an answer states.
 fn stated_price(t: &[u8]) -> usize
@@ -110,4 +110,50 @@ pub fn check(graph: &[u8], answer: &[u8]) -> Verdict
         return read;
     }
     answer_verdict(graph, answer)
+}
+
+// What asking for path k gives: the check's refusal, or 23 where there is no such path.
+pub fn hand_out_verdict(graph: &[u8], answer: &[u8], k: usize) -> Verdict
+    ensures { λ r. ⌜ r ≡ handOutVerdict (now (graph .entry)) (now (answer .entry)) k ⌝ }
+{
+    let checked = check(graph, answer);
+    if checked.number != 0 {
+        return checked;
+    }
+    if be16(answer, Answer::AT_PATHS) <= k {
+        return Verdict::new(23, 0);
+    }
+    Verdict::new(0, 0)
+}
+
+// Where the record of path k stands, the first one's being at an offset.
+fn path_at(t: &[u8], from: usize, k: usize) -> usize
+    requires { ⌜ PathsStand (now t) (k + 1) from ⌝ }
+    ensures { λ r. ⌜ (r ≡ pathAt (now (t .entry)) k from) × (pathEnd (now (t .entry)) r ≤ length (now (t .entry))) ⌝ }
+{
+    let mut at = from;
+    let mut left = k;
+    while 0 < left {
+        at = at + Answer::PATH + wide(t[at + Answer::WEIGHT]);
+        left -= 1;
+    }
+    at
+}
+
+// The vertex bytes of path k, a part of the answer; the empty part where the answer is refused or has no path k.
+pub fn hand_out<'a>(graph: &[u8], answer: &'a [u8], k: usize) -> &'a [u8]
+    ensures { λ r. ⌜ now r ≡ handedOut (now (graph .entry)) (now (answer .entry)) k ⌝ }
+{
+    let verdict = hand_out_verdict(graph, answer, k);
+    if verdict.number != 0 {
+        return &answer[0..0];
+    }
+    let at = path_at(
+        answer,
+        Answer::HEADER + Answer::MARKS * wide(graph[Graph::AT_VERTICES]),
+        k,
+    );
+    let start = at + Answer::PATH;
+    let end = start + wide(answer[at + Answer::WEIGHT]);
+    &answer[start..end]
 }

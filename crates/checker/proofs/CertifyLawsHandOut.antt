@@ -1,0 +1,90 @@
+-- The hand-out: the records of an accepted answer's paths lie within it, and a walk over them finds path k.
+use Prim.Native.Nat.{ℕ, zero, suc, _+_, _-_, _*_, _<_, _≤_}
+use native.Mathlib.Numerals.{add-one}
+use native.Mathlib.Omega.{arith}
+use mathlib.Core.Path.{_≡_, refl, sym, ap, _∙_}
+use mathlib.Core.List.{List, []}
+use mathlib.Core.Bool.{Bool, true, false, cond}
+use lib.Dec.{ltb}
+use lib.ListN.{length, take, drop}
+use borrow.Author.Tests.{lt-ltb, le-ltb, ltb-true, eq-eqb, ne-eqb}
+use Rattle.checker.specs.Bytes.{byte, part}
+use Rattle.checker.specs.GraphForm.{vertexCount}
+use Rattle.checker.specs.GraphFaults.{refusal, nothingRefused}
+use Rattle.checker.specs.AnswerForm.{pathCount, firstPathAt, pathEnd, pathVertices}
+use Rattle.checker.specs.Check.{checkVerdict, handOutVerdict, pathAt, handedOut}
+use Rattle.checker.specs.Certify.{PathsStand}
+use Rattle.checker.proofs.Accepted.{earlier-first, PathsRight, Accepted, number-zero-accepted}
+
+-- Of k paths to pass, left are still ahead, the next at an offset.
+pub record Passing (t : List ℕ) (k from at left : ℕ) : Type 0 where
+  pub stands : PathsStand t (left + 1) at
+  pub same : pathAt t left at ≡ pathAt t k from
+
+first-stands : (t : List ℕ) (left at : ℕ) → PathsStand t (left + 1) at → (pathEnd t at ≤ length t) × PathsStand t left (pathEnd t at)
+first-stands t left at p = rw (add-one left) at p
+
+pub pass-begin : {t : List ℕ} {k from : ℕ} → PathsStand t (k + 1) from → Passing t k from from k
+pass-begin p = record { stands = p; same = refl }
+
+module _ {t : List ℕ} {k from at left : ℕ} (p : Passing t k from at left) where
+  pub pass-within : pathEnd t at ≤ length t
+  pass-within = first-stands t left at (p .stands) .0
+
+  pub pass-turn : (length : ℕ) → length ≡ byte t (at + 4) → 0 < left → Passing t k from (at + 5 + length) (left - 1)
+  pass-turn length e h =
+      let split : left ≡ suc (left - 1) = omega arith in
+      let more : left - 1 + 1 ≡ left = omega arith in
+      record {
+        stands = rw (e, more) (first-stands t left at (p .stands) .1);
+        same = rw e (sym (ap (λ n. pathAt t n at) split) ∙ p .same);
+      }
+
+  pub pass-end : left ≤ 0 → (at ≡ pathAt t k from) × (pathEnd t at ≤ length t)
+  pass-end h =
+      let none : left ≡ 0 = omega arith in
+      (rw none at (p .same), pass-within)
+
+-- 23 after 22
+module _ (t : List ℕ) (k n : ℕ) (counted : n ≡ pathCount t) where
+  pub no-such-path : n ≤ k → refusal 23 0 ≡ cond (ltb k (pathCount t)) nothingRefused (refusal 23 0)
+  no-such-path h = simp (le-ltb k (pathCount t) (omega arith))
+
+  pub such-path : k < n → nothingRefused ≡ cond (ltb k (pathCount t)) nothingRefused (refusal 23 0)
+  such-path h = simp (lt-ltb k (pathCount t) (omega arith))
+
+-- what is not refused is accepted, and has path k
+pub record HasPath (s t : List ℕ) (k : ℕ) : Type 0 where
+  pub accepted : Accepted s t
+  pub below : k < pathCount t
+
+pub has-path : (s t : List ℕ) (k : ℕ) → handOutVerdict s t k .number ≡ 0 → HasPath s t k
+unfolding handOutVerdict
+has-path s t k e =
+    let h = earlier-first (checkVerdict s t) (cond (ltb k (pathCount t)) nothingRefused (refusal 23 0)) e in
+    record { accepted = number-zero-accepted s t (h .0); below = by (ltb k (pathCount t)) refl (h .1) }
+  where
+    by : (b : Bool) → ltb k (pathCount t) ≡ b → cond b nothingRefused (refusal 23 0) .number ≡ 0 → k < pathCount t
+    by true p q = ltb-true k (pathCount t) p
+    by false p q = absurd (omega arith)
+
+paths-stand : (s t : List ℕ) (count at : ℕ) (before : List ℕ) (copies k : ℕ) → PathsRight s t count at before copies → k < count → PathsStand t (suc k) at
+paths-stand s t zero at before copies k p h = absurd (omega arith)
+paths-stand s t (suc count) at before copies zero p h = (p .0 .within, tt)
+paths-stand s t (suc count) at before copies (suc k) p h = (p .0 .within, paths-stand s t count (pathEnd t at) _ _ k (p .1) (omega arith))
+
+pub stands-to : {s t : List ℕ} {k : ℕ} → HasPath s t k → PathsStand t (k + 1) (firstPathAt (vertexCount s))
+stands-to {s} {t} {k} h = rw (add-one k) (paths-stand s t (pathCount t) (firstPathAt (vertexCount s)) [] 0 k (h .accepted .paths) (h .below))
+
+-- the empty part, and the part that is path k
+pub nothing-handed : (s t : List ℕ) (k : ℕ) → (handOutVerdict s t k .number ≡ 0 → ⊥) → [] ≡ handedOut s t k
+unfolding handedOut
+nothing-handed s t k h = simp (ne-eqb (handOutVerdict s t k .number) 0 h)
+
+pub path-handed : (s t : List ℕ) (k at len n : ℕ) → handOutVerdict s t k .number ≡ 0 → n ≡ vertexCount s → at ≡ pathAt t k (15 + 8 * n) → len ≡ byte t (at + 4) →
+    take (at + 5 + len - (at + 5)) (drop (at + 5) t) ≡ handedOut s t k
+unfolding handedOut part
+path-handed s t k at len n h counted e read =
+    let long : at + 5 + len - (at + 5) ≡ len = omega arith in
+    let here : at ≡ pathAt t k (firstPathAt (vertexCount s)) = e ∙ ap (λ m. pathAt t k (15 + 8 * m)) counted in
+    simp (eq-eqb (handOutVerdict s t k .number) 0 h) (rw (long, read) (ap (pathVertices t) here))
