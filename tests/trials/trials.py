@@ -127,6 +127,7 @@ def stored(batch):
         batch.add_build(name, form, LONGEST_ANSWER, lambda answer: None)
     batch.run("stored graph forms")
     for name, graph, answer, k in make_checker_vectors.vectors:
+        batch.add_check(name, graph, answer)
         batch.add_hand_out(name, graph, answer, k)
     for graph, answer in ((D, D_ANSWER), (D_WITH_3, D_WITH_3_ANSWER), (L, L_ANSWER), (X, X_ANSWER)):
         for name, g, a in every_single(graph, answer):
