@@ -13,8 +13,8 @@ abbrev μ-loop : tie.MeasureT-loop
 loop-holds : tie.Need-loop-holds Inv-loop μ-loop
 loop-holds c = tt
 
-run-record-requires : tie.Need-run-record-requires Inv-loop μ-loop
-run-record-requires c κs = tt
+run-form-requires : tie.Need-run-form-requires Inv-loop μ-loop
+run-form-requires c κs = tt
 
 sub-turns : tie.Need-sub-turns Inv-loop μ-loop
 sub-turns c = omega arith
@@ -32,4 +32,4 @@ returns-2 : tie.Need-returns-2 Inv-loop μ-loop
 returns-2 c = tt
 
 pub main-spec : {M : Type 1} → statement M
-main-spec = tie.close (tie.spec Inv-loop μ-loop loop-holds run-record-requires sub-turns loop-less loop-again returns returns-2)
+main-spec = tie.close (tie.spec Inv-loop μ-loop loop-holds run-form-requires sub-turns loop-less loop-again returns returns-2)

@@ -1,4 +1,4 @@
--- `reader_vectors::read_part` meets its contract: what `read_full` counts in the part that it is lent lies within the whole.
+-- `records::read_part` meets its contract: what `read_full` counts in the part that it is lent lies within the whole.
 -- Assumes nothing.
 use Prim.Native.Nat.{ℕ, _≤_}
 use native.Mathlib.Omega.{arith}
@@ -7,8 +7,8 @@ use lib.ListN.{length, drop, length-append}
 use borrow.Author.Needs.{needs}
 use Rattle.io.specs.Counts.{Counts}
 use Rattle.io.proofs.Counting.{front, counts}
-use Rattle.reader_vectors.proofs.read_part.Statement.{statement}
-use Rattle.reader_vectors.proofs.read_part.Tie as tie
+use Rattle.records.proofs.read_part.Statement.{statement}
+use Rattle.records.proofs.read_part.Tie as tie
 
 counts-more : (n : ℕ) (xs ys : List ℕ) → n ≤ length xs → Counts n (xs ++ ys)
 counts-more n xs ys h = counts n (xs ++ ys) (omega (arith, h, length-append xs ys))

@@ -1,0 +1,70 @@
+// The library's calls for programs in C and Rust: functions on byte slices and numbers under plain names. From outside a slice is a
+// pointer and a length. Each answers the number of the refusal, 0 where nothing is refused, and stores its place.
+ghost use Prim.Native.Nat.{_≤_};
+ghost use mathlib.Core.Path.{_≡_};
+ghost use mathlib.Core.List.{_++_};
+ghost use lib.ListN.{length, drop};
+ghost use Rattle.checker.specs.GraphFaults.{refusal, graphVerdict};
+ghost use Rattle.checker.specs.Check.{checkVerdict, handOutVerdict, handedOut};
+ghost use Rattle.calls.specs.Copied.{copied, copiedCount};
+
+// Reads a graph form: numbers 1 to 7.
+#[no_mangle]
+pub extern "C" fn read_graph_form(graph: &[u8], place: &mut u64) -> u64
+    ensures { λ r. ⌜ refusal r (now (place .exit)) ≡ graphVerdict (now (graph .entry)) ⌝ }
+{
+    let verdict = checker::reader::read_graph(graph);
+    *place = verdict.place as u64;
+    verdict.number as u64
+}
+
+// Checks an answer form against a graph form: numbers 1 to 7 and 11 to 22.
+#[no_mangle]
+pub extern "C" fn check_answer_form(graph: &[u8], answer: &[u8], place: &mut u64) -> u64
+    ensures { λ r. ⌜ refusal r (now (place .exit)) ≡ checkVerdict (now (graph .entry)) (now (answer .entry)) ⌝ }
+{
+    let verdict = checker::check::check(graph, answer);
+    *place = verdict.place as u64;
+    verdict.number as u64
+}
+
+// What handing out path k gives: numbers 1 to 7 and 11 to 23.
+#[no_mangle]
+pub extern "C" fn hand_out_number(graph: &[u8], answer: &[u8], k: u64, place: &mut u64) -> u64
+    ensures { λ r. ⌜ refusal r (now (place .exit)) ≡ handOutVerdict (now (graph .entry)) (now (answer .entry)) k ⌝ }
+{
+    let verdict = checker::check::hand_out_verdict(graph, answer, k as usize);
+    *place = verdict.place as u64;
+    verdict.number as u64
+}
+
+fn copy_front(part: &[u8], out: &mut [u8])
+    requires { ⌜ length (now part) ≤ length (now out) ⌝ }
+    ensures { λ _. ⌜ now (out .exit) ≡ now (part .entry) ++ drop (length (now (part .entry))) (now (out .entry)) ⌝ }
+{
+    let mut i = 0;
+    while i < part.len() {
+        out[i] = part[i];
+        i += 1;
+    }
+}
+
+fn copy_where_room(part: &[u8], out: &mut [u8]) -> usize
+    ensures { λ r. ⌜ (r ≡ copiedCount (now (part .entry)) (now (out .entry))) × (now (out .exit) ≡ copied (now (part .entry)) (now (out .entry))) ⌝ }
+{
+    if part.len() <= out.len() {
+        copy_front(part, out);
+        return part.len();
+    }
+    0
+}
+
+// Copies the vertices of path k, as they stand in the answer, to the front of the output, and answers how many there are; answers 0
+// and changes no byte where `hand_out_number` gives a number other than 0, or the output is shorter than the path. 64 bytes do.
+#[no_mangle]
+pub extern "C" fn hand_out_path(graph: &[u8], answer: &[u8], k: u64, out: &mut [u8]) -> u64
+    ensures { λ r. ⌜ (r ≡ copiedCount (handedOut (now (graph .entry)) (now (answer .entry)) k) (now (out .entry))) × (now (out .exit) ≡ copied (handedOut (now (graph .entry)) (now (answer .entry)) k) (now (out .entry))) ⌝ }
+{
+    let part = checker::check::hand_out(graph, answer, k as usize);
+    copy_where_room(part, out) as u64
+}

@@ -1,0 +1,148 @@
+/* Calls the library on cases from standard input and prints what it answers, a line for each case. It judges only one thing itself: that
+ * no byte changed that may not change. Everything else is compared by trials.py.
+ *
+ * A case is a letter and its parts; a part is a length (four bytes, high byte first) and that many bytes.
+ *   r graph                 NUMBER PLACE
+ *   c graph answer          NUMBER PLACE
+ *   h graph answer k room   NUMBER PLACE COUNT BYTES    (k: a part of eight bytes, room: four bytes; both high byte first)
+ *   b graph room            NUMBER PLACE COUNT BYTES
+ * BYTES are hexadecimal, the first COUNT of the output, '-' for none. Where a byte changed that may not, the line goes on with
+ * 'changed' and where.
+ *
+ * Each lent buffer lies in pages of its own, filled with a pattern, between two pages that may not be touched: in turn at the very end
+ * of its pages, so that a byte read or written behind it ends the driver, and at the very beginning, for a byte before it.
+ */
+#define _GNU_SOURCE
+#include <stdint.h>
+#include <stdio.h>
+#include <stdlib.h>
+#include <string.h>
+#include <sys/mman.h>
+
+#include "../../crates/calls/calls.h"
+
+/* The builder's call comes with the builder; until then its trials are left out. */
+extern uint64_t build_answer_form(const uint8_t *graph, size_t graph_len, uint8_t *out, size_t out_len, uint64_t *place, uint64_t *written)
+    __attribute__((weak));
+
+enum { PAGE = 4096, PAGES = 10, SPACE = PAGE * PAGES };
+
+struct lent {
+    uint8_t *space; /* PAGES pages between two that may not be touched */
+    uint8_t *at;    /* the buffer, somewhere in them */
+    size_t length;
+};
+
+static uint8_t pattern(size_t i) { return (uint8_t)(0xa5 ^ i * 37 ^ i >> 8); }
+
+static void die(const char *what) {
+    fprintf(stderr, "driver: %s\n", what);
+    exit(2);
+}
+
+static struct lent lend(void) {
+    uint8_t *all = mmap(NULL, SPACE + 2 * PAGE, PROT_READ | PROT_WRITE, MAP_PRIVATE | MAP_ANONYMOUS, -1, 0);
+    if (all == MAP_FAILED || mprotect(all, PAGE, PROT_NONE) != 0 || mprotect(all + PAGE + SPACE, PAGE, PROT_NONE) != 0) die("no memory");
+    return (struct lent){all + PAGE, all + PAGE, 0};
+}
+
+static void place_in(struct lent *buffer, size_t length, int at_end) {
+    if (length > SPACE) die("a part is too long");
+    for (size_t i = 0; i < SPACE; i++) buffer->space[i] = pattern(i);
+    buffer->length = length;
+    buffer->at = at_end ? buffer->space + SPACE - length : buffer->space;
+}
+
+/* The first byte of the pages that differs from the pattern, leaving out `own` bytes from the front of the buffer; -1 for none. */
+static long changed(const struct lent *buffer, size_t own) {
+    size_t from = (size_t)(buffer->at - buffer->space);
+    for (size_t i = 0; i < SPACE; i++)
+        if ((i < from || i >= from + own) && buffer->space[i] != pattern(i)) return (long)i - (long)from;
+    return -1;
+}
+
+static int read_all(uint8_t *to, size_t length) { return fread(to, 1, length, stdin) == length; }
+
+static uint64_t number_of(const uint8_t *bytes, size_t length) {
+    uint64_t number = 0;
+    for (size_t i = 0; i < length; i++) number = number << 8 | bytes[i];
+    return number;
+}
+
+static uint64_t read_number(size_t length) {
+    uint8_t bytes[8];
+    if (!read_all(bytes, length)) die("a case is cut short");
+    return number_of(bytes, length);
+}
+
+static uint8_t *kept[2];
+
+static void read_part(struct lent *buffer, int which, int at_end) {
+    place_in(buffer, (size_t)read_number(4), at_end);
+    if (!read_all(buffer->at, buffer->length)) die("a case is cut short");
+    memcpy(kept[which], buffer->at, buffer->length);
+}
+
+static void say_changed(const char *name, long at) { printf(" changed %s %ld", name, at); }
+
+static void look_at_input(const char *name, const struct lent *buffer, int which) {
+    for (size_t i = 0; i < buffer->length; i++)
+        if (buffer->at[i] != kept[which][i]) {
+            say_changed(name, (long)i);
+            return;
+        }
+    if (changed(buffer, buffer->length) >= 0) say_changed(name, changed(buffer, buffer->length));
+}
+
+/* On a refusal nothing may have changed; else nothing behind the bytes that were written. */
+static void look_at_output(const struct lent *out, uint64_t number, uint64_t count) {
+    if (count > out->length || (number != 0 && count != 0)) printf(" changed count %llu", (unsigned long long)count);
+    size_t own = number != 0 || count > out->length ? 0 : (size_t)count;
+    printf(own == 0 ? " -" : " ");
+    for (size_t i = 0; i < own; i++) printf("%02x", out->at[i]);
+    if (changed(out, own) >= 0) say_changed("out", changed(out, own));
+}
+
+int main(int argc, char **argv) {
+    if (argc > 1 && strcmp(argv[1], "--calls") == 0) {
+        printf(build_answer_form == NULL ? "rch\n" : "rchb\n");
+        return 0;
+    }
+    struct lent graph = lend(), answer = lend(), out = lend();
+    kept[0] = malloc(SPACE);
+    kept[1] = malloc(SPACE);
+    if (kept[0] == NULL || kept[1] == NULL) die("no memory");
+    int kind, turn = 0;
+    while ((kind = getchar()) != EOF) {
+        turn++;
+        uint64_t place = 0x7777777777777777, count = 0x7777777777777777, number = 0;
+        read_part(&graph, 0, turn % 2);
+        if (kind == 'c' || kind == 'h') read_part(&answer, 1, turn / 2 % 2);
+        if (kind == 'r') {
+            number = read_graph_form(graph.at, graph.length, &place);
+            printf("%llu %llu", (unsigned long long)number, (unsigned long long)place);
+        } else if (kind == 'c') {
+            number = check_answer_form(graph.at, graph.length, answer.at, answer.length, &place);
+            printf("%llu %llu", (unsigned long long)number, (unsigned long long)place);
+        } else if (kind == 'h') {
+            uint64_t k = read_number(8);
+            place_in(&out, (size_t)read_number(4), turn / 4 % 2);
+            number = hand_out_number(graph.at, graph.length, answer.at, answer.length, k, &place);
+            count = hand_out_path(graph.at, graph.length, answer.at, answer.length, k, out.at, out.length);
+            printf("%llu %llu %llu", (unsigned long long)number, (unsigned long long)place, (unsigned long long)count);
+            look_at_output(&out, number, count);
+        } else if (kind == 'b') {
+            place_in(&out, (size_t)read_number(4), turn / 2 % 2);
+            number = build_answer_form(graph.at, graph.length, out.at, out.length, &place, &count);
+            printf("%llu %llu %llu", (unsigned long long)number, (unsigned long long)place, (unsigned long long)count);
+            look_at_output(&out, number, count);
+        } else {
+            die("no such case");
+        }
+        look_at_input("graph", &graph, 0);
+        if (kind == 'c' || kind == 'h') look_at_input("answer", &answer, 1);
+        printf("\n");
+        fflush(stdout);
+    }
+    return 0;
+}

@@ -1,0 +1,138 @@
+"""Trials of the trials: wrong libraries, which the comparison must catch. Run by hand: python3 tests/trials/wrong.py (some minutes).
+
+Each is a copy of the repository in a temporary folder in which one call does something else. Its promise is taken away, so that it is
+proved (safe, and ending) and built as the right one is. The first complaint of the trials is printed for each.
+"""
+
+import os
+import random
+import re
+import shutil
+import subprocess
+import sys
+import tempfile
+
+import trials
+
+ROOT = os.path.abspath(os.path.join(os.path.dirname(os.path.abspath(__file__)), "..", ".."))
+
+# What is wrong, the call, and its new body.
+WRONG = [
+    ("a reader that gives 6 for 7", "read_graph_form", """
+    let verdict = checker::reader::read_graph(graph);
+    *place = verdict.place as u64;
+    if verdict.number == 7 {
+        return 6;
+    }
+    verdict.number as u64
+"""),
+    ("a checker that refuses always", "check_answer_form", """
+    *place = 0;
+    11
+"""),
+    ("a checker that tests slacks but does not compare bound and price", "check_answer_form", """
+    let verdict = checker::check::check(graph, answer);
+    *place = verdict.place as u64;
+    if verdict.number == 22 {
+        return 0;
+    }
+    verdict.number as u64
+"""),
+    ("a checker that gives the place of 19 among the demands alone", "check_answer_form", """
+    let verdict = checker::check::check(graph, answer);
+    *place = verdict.place as u64;
+    if verdict.number == 19 && verdict.place > 319 {
+        *place = 319;
+    }
+    verdict.number as u64
+"""),
+    ("a hand-out that always gives the first path", "hand_out_path", """
+    let part = checker::check::hand_out(graph, answer, 0);
+    copy_where_room(part, out) as u64
+"""),
+    ("a hand-out that clears the byte behind the path", "hand_out_path", """
+    let part = checker::check::hand_out(graph, answer, k as usize);
+    let count = copy_where_room(part, out);
+    if count < out.len() {
+        out[count] = 0;
+    }
+    count as u64
+"""),
+    ("a builder that gives 9 before 8", "build_answer_form", """
+    if out.len() < 32543 {
+        *place = 0;
+        *written = 0;
+        return 9;
+    }
+    let built = builder::build::build(graph, out);
+    *place = built.place as u64;
+    *written = built.written as u64;
+    built.number as u64
+"""),
+    ("a builder that clears the last byte of the output", "build_answer_form", """
+    let built = builder::build::build(graph, out);
+    *place = built.place as u64;
+    *written = built.written as u64;
+    if out.len() > 0 {
+        out[out.len() - 1] = 0;
+    }
+    built.number as u64
+"""),
+    ("a builder that says one byte less than it wrote", "build_answer_form", """
+    let built = builder::build::build(graph, out);
+    *place = built.place as u64;
+    *written = built.written as u64;
+    if built.written > 0 {
+        *written = built.written as u64 - 1;
+    }
+    built.number as u64
+"""),
+]
+
+
+def make_wrong(folder, call, body):
+    """Takes the call's promise away and gives it another body."""
+    path = os.path.join(folder, "crates", "calls", "src", "lib.rt")
+    with open(path) as f:
+        text = f.read()
+    start = text.index(f'pub extern "C" fn {call}(')
+    end = text.index("\n}\n", start)
+    head = text[start:text.index("\n{\n", start)]
+    head = re.sub(r"\n    ensures .*", "", head)
+    with open(path, "w") as f:
+        f.write(text[:start] + head + "\n{" + body.rstrip() + text[end:])
+    shutil.rmtree(os.path.join(folder, "crates", "calls", "proofs", call), ignore_errors=True)
+
+
+def tried(driver):
+    """Runs trials until some fail; how many failed."""
+    trials.passed = trials.failed = 0
+    batch = trials.Batch([driver])
+    trials.stored(batch)
+    for name in ("small", "genes"):
+        if trials.failed == 0:
+            trials.family(batch, name, trials.make(name, 1, 200), random.Random(1), name == "small")
+    return trials.failed
+
+
+if __name__ == "__main__":
+    caught = 0
+    trials.SHOWN = 1
+    with open(os.path.join(ROOT, "crates", "calls", "src", "lib.rt")) as f:
+        there = f.read()
+    wrong = [(what, call, body) for what, call, body in WRONG if f"fn {call}(" in there]
+    for what, call, body in wrong:
+        print(f"== {what}", flush=True)
+        with tempfile.TemporaryDirectory() as temporary:
+            folder = os.path.join(temporary, "copy")
+            # Proofs of the crates below come along, so that only the calls are proved anew.
+            shutil.copytree(ROOT, folder, ignore=shutil.ignore_patterns(".git", "built", "__pycache__"))
+            make_wrong(folder, call, body)
+            done = subprocess.run(["bash", os.path.join(folder, "tests", "trials", "build")], capture_output=True, text=True)
+            if done.returncode != 0:
+                sys.exit(done.stdout + done.stderr)
+            failed = tried(os.path.join(folder, "tests", "trials", "built", "run"))
+            caught += failed > 0
+            print(f"== {'caught: ' + str(failed) + ' cases failed' if failed else 'NOT CAUGHT'}: {what}", flush=True)
+    print(f"{caught} passed, {len(wrong) - caught} failed")
+    sys.exit(caught != len(wrong))
