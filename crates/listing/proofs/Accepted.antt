@@ -3,16 +3,13 @@
 use Prim.Native.Nat.{ℕ, zero, suc, _+_, _-_, _*_, _≤_, _<_}
 use native.Mathlib.Numerals.{add-one}
 use native.Mathlib.Omega.{arith}
-use mathlib.Core.Path.{_≡_, refl, sym, ap, subst, _∙_}
+use mathlib.Core.Path.{_≡_, refl, sym, ap, subst}
 use mathlib.Core.List.{List, [], _++_}
-use mathlib.Core.Bool.{cond}
-use lib.Dec.{T, ltb}
 use lib.ListN.{length, length-append, length-take}
 use lib.IntN.{pos, natAbs}
 use lib.Signed.{leZ}
 use borrow.Author.Tests.{eq-eqb, lt-ltb}
 use Rattle.mathematics.specs.Price.{whole}
-use Rattle.mathematics.specs.Lists.{All}
 use Rattle.mathematics.specs.Cover.{price}
 use Rattle.mathematics.specs.Bound.{bound}
 use Rattle.mathematics.proofs.Basics.{and-l, and-r, is-true, all-weaken}
@@ -20,12 +17,11 @@ use Rattle.mathematics.proofs.PriceKinds.{whole-ordered}
 use Rattle.checker.specs.Bytes.{part}
 use Rattle.checker.specs.GraphForm.{vertexCount}
 use Rattle.checker.specs.GraphOf.{graphOf}
-use Rattle.checker.specs.GraphFaults.{allBelow}
-use Rattle.checker.specs.AnswerForm.{pathCount, statedPrice, marksOf, firstPathAt, pathWeight, pathLength, pathVertices, pathEnd, coverOf}
+use Rattle.checker.specs.AnswerForm.{pathCount, statedPrice, marksOf, firstPathAt, pathWeight, pathVertices, pathEnd, coverOf}
 use Rattle.checker.specs.Check.{checkVerdict, handOutVerdict, pathAt, handedOut}
 use Rattle.checker.proofs.RightLaws.{below-all}
 use Rattle.checker.proofs.GraphReads.{number-zero-iff-reads}
-use Rattle.checker.proofs.Accepted.{PathRight, PathsRight, Accepted, number-zero-accepted}
+use Rattle.checker.proofs.Accepted.{PathRight, PathsRight, number-zero-accepted}
 use Rattle.checker.proofs.Soundness.{accepted-is-lowest}
 use Rattle.listing.specs.Text.{coverWord, pairLine, pathLine, boundLine}
 use Rattle.listing.specs.Listing.{weightOf, pathLines, coverListing, room}

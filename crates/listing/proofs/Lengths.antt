@@ -2,12 +2,12 @@
 use Prim.Native.Nat.{ℕ, zero, suc, _+_, _-_, _*_, _/_, _%_, _^_, _≤_, _<_}
 use native.Mathlib.Omega.{arith}
 use mathlib.Core.Path.{_≡_}
-use mathlib.Core.List.{List, [], _∷_, _++_}
+use mathlib.Core.List.{List, [], _∷_}
 use lib.Dec.{ltb}
 use lib.ListN.{length, length-append}
 use borrow.Author.Tests.{ltb-false}
 use Rattle.mathematics.specs.Lists.{All}
-use Rattle.listing.specs.Text.{digit, digitsBefore, decimal, space, newline, coverWord, boundWord, refusedWord, pairLine, vertexTexts, pathLine, boundLine}
+use Rattle.listing.specs.Text.{digit, digitsBefore, decimal, coverWord, pairLine, vertexTexts, pathLine, boundLine}
 use Rattle.listing.proofs.Digits.{chosen, one-digit-less}
 
 digits-few : (places n : ℕ) (after : List ℕ) → length (digitsBefore places n after) ≤ places + length after

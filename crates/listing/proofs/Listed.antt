@@ -10,7 +10,7 @@ use Rattle.mathematics.specs.Price.{whole}
 use Rattle.mathematics.specs.Cover.{Weighted, IsLowest, price}
 use Rattle.checker.specs.GraphForm.{vertexCount}
 use Rattle.checker.specs.GraphOf.{graphOf}
-use Rattle.checker.specs.AnswerForm.{pathCount, firstPathAt, pathEnd, pathsFrom, coverOf}
+use Rattle.checker.specs.AnswerForm.{pathCount, firstPathAt, pathsFrom, coverOf}
 use Rattle.checker.specs.Check.{checkVerdict, pathAt}
 use Rattle.checker.proofs.Soundness.{accepted-is-lowest}
 use Rattle.checker.proofs.HandedOut.{paths-length}

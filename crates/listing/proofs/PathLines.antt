@@ -3,15 +3,15 @@ use Prim.Native.Nat.{ℕ, _+_, _-_, _≤_, _<_}
 use native.Mathlib.Nat.{sub-zero}
 use native.Mathlib.Numerals.{add-one}
 use native.Mathlib.Omega.{arith}
-use mathlib.Core.Path.{_≡_, refl, sym, ap, subst, _∙_}
+use mathlib.Core.Path.{_≡_, sym, ap, _∙_}
 use mathlib.Core.List.{List, _++_}
 use lib.ListN.{length}
-use Rattle.checker.specs.Bytes.{byte, be32}
+use Rattle.checker.specs.Bytes.{be32}
 use Rattle.checker.specs.GraphForm.{vertexCount}
 use Rattle.checker.specs.AnswerForm.{pathCount, firstPathAt, pathEnd}
 use Rattle.checker.specs.Check.{checkVerdict, pathAt, handedOut}
 use Rattle.listing.specs.Text.{Puts, Room, pathLine}
-use Rattle.listing.specs.Listing.{weightOf, pathLines}
+use Rattle.listing.specs.Listing.{pathLines}
 use Rattle.listing.proofs.Storing.{Still, still-all, still-next, still-none}
 use Rattle.listing.proofs.Accepted.{path-here, path-at-next, path-lines-next}
 

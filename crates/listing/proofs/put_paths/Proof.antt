@@ -1,6 +1,6 @@
 -- `listing::put_paths` meets its contract: at each turn the lines of the remaining paths are still to be stored. The measure is their number.
 -- Assumes nothing.
-use Prim.Native.Nat.{ℕ, _+_, _-_, _*_}
+use Prim.Native.Nat.{_+_, _-_, _*_}
 use native.Mathlib.Omega.{arith}
 use mathlib.Core.Path.{ap}
 use denote.Ref.{now}

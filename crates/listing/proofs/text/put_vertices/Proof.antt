@@ -1,13 +1,11 @@
 -- `listing::text::put_vertices` meets its contract: at each turn the texts of the remaining vertices are still to be stored. The measure is their number.
 -- Assumes nothing.
-use Prim.Native.Nat.{ℕ, _-_, _≤_}
+use Prim.Native.Nat.{_-_, _≤_}
 use native.Mathlib.Omega.{arith}
 use mathlib.Core.Path.{refl}
-use mathlib.Core.List.{List, _++_}
 use lib.ListN.{length, drop}
-use denote.Ref.{now}
 use borrow.Author.Needs.{needs}
-use Rattle.listing.specs.Text.{decimal, space, vertexTexts}
+use Rattle.listing.specs.Text.{decimal, vertexTexts}
 use Rattle.listing.proofs.Storing.{Still, still-all, still-next, still-byte, still-room, still-inside, vertex-next, vertices-end}
 use Rattle.listing.proofs.text.put_vertices.Statement.{statement}
 use Rattle.listing.proofs.text.put_vertices.Tie as tie
