@@ -1,5 +1,7 @@
 -- The laws, smallest first; the theorems that docs/PROMISES.md names come last.
 pub mod Basics
+pub mod Loads
+pub mod Sweep
 pub mod Algebra
 pub mod PriceKinds
 pub mod Examples
@@ -12,3 +14,20 @@ pub mod Transport
 pub mod Merge
 pub mod Reach
 pub mod Existence
+pub mod WithReads
+pub mod Parts
+pub mod Overlap
+pub mod Taken
+pub mod Dropped
+pub mod Links
+pub mod Decompose
+pub mod Base
+pub mod Items
+pub mod Telescope
+pub mod Totals
+pub mod LowerBound
+pub mod Lowest
+pub mod Limits
+pub mod Longest
+pub mod Joined
+pub mod Linked

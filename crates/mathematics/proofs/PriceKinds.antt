@@ -1,14 +1,14 @@
 -- Both kinds of price keep the laws: plain numbers (graph versions 1 to 4) and pairs compared by first part, then second (version 5).
 -- So what is proved over any `Ordered` holds for both, argued once.
-use Prim.Native.Nat.{ℕ, zero, suc, _+_, _-_, _≤_, _<_}
+use Prim.Native.Nat.{ℕ, suc, _+_, _-_, _≤_, _<_}
 use native.Mathlib.Omega.{arith}
-use mathlib.Core.Path.{_≡_, refl, sym, ap, subst, _∙_}
+use mathlib.Core.Path.{_≡_, sym, ap, subst, _∙_}
 use mathlib.Core.Bool.{Bool, true, false, cond}
 use mathlib.Core.Logic.{_⊎_, inl, inr}
-use lib.Dec.{T, leb, ltb, leb→le, le→leb, ltb→lt, lt→ltb, not-T}
+use lib.Dec.{T, ltb, leb→le, le→leb, ltb→lt, lt→ltb, not-T}
 use lib.IntN.{ℤ, pos, negsuc, _+ℤ_, subℕ, +ℤ-assoc, +ℤ-comm, +ℤ-idr, +ℤ-invr}
 use lib.Signed.{ltZ, leZ, ltZ-no, ltZ-yes, leZ-yes, clashℤ, ≤ℤ-refl}
-use Rattle.mathematics.specs.Price.{Prices, Le, Ordered, whole, Pair, pairs}
+use Rattle.mathematics.specs.Price.{Le, Ordered, whole, Pair, pairs}
 use Rattle.mathematics.proofs.Basics.{test, is-true, is-false}
 use Rattle.mathematics.proofs.Algebra.{le-cancel}
 
