@@ -1,1 +1,4 @@
 pub mod Network
+pub mod Slots
+pub mod Peel
+pub mod Build

@@ -44,15 +44,14 @@ base = 2_000_000_000
 abbrev pub reach : ℕ
 reach = 1_063_000_000
 
--- The network's shape: ends are live nodes, costs are in range, and each live node is reached from the root and reaches it at no more than `reach`.
+-- The network's shape: ends are live nodes (an edge that is not in use stands as a loop of cost 0 at the root), costs are in range, and each live node is reached from the root and reaches it at no more than `reach`.
 pub record Shape (N E : ℕ) (live : List Bool) (from to cost : List ℕ) : Type 0 where
   pub few-nodes : N ≤ 129
-  pub few-edges : E ≤ 448
+  pub few-edges : E ≤ 464
   pub root-live : T (liveAt live 0)
   pub some-node : 1 ≤ N
   pub from-live : (e : ℕ) → e < E → (at from e < N) × T (liveAt live (at from e))
   pub to-live : (e : ℕ) → e < E → (at to e < N) × T (liveAt live (at to e))
-  pub ends-differ : (e : ℕ) → e < E → at from e ≢ at to e
   pub cheap : (e : ℕ) → e < E → at cost e ≤ 1_000_000_000
   pub from-root : (u : ℕ) → u < N → T (liveAt live u) → (c : ℕ) × (c ≤ reach) × Way E from to cost 0 u c
   pub to-root : (u : ℕ) → u < N → T (liveAt live u) → (c : ℕ) × (c ≤ reach) × Way E from to cost u 0 c

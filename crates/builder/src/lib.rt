@@ -1,4 +1,11 @@
 // The builder: from graph bytes to the answer form of a lowest-price cover. It sees only what the reader and checker publish, and the mathematics.
 
+// What a call to build answers: the refusal's number and place (both 0 where nothing is refused), and how many bytes it wrote at the front of the output.
+pub struct Built {
+    pub number: usize,
+    pub place: usize,
+    pub written: usize,
+}
+
 // A bare network and the flow of lowest cost in it: it knows nothing of graphs and reads.
 mod network;
