@@ -3,6 +3,9 @@ pub mod Limits
 pub mod GraphForm
 pub mod GraphFaults
 pub mod GraphOf
+pub mod GraphReads
+pub mod ArcTable
 pub mod AnswerForm
 pub mod AnswerFaults
 pub mod Check
+pub mod Encode
