@@ -23,3 +23,4 @@ pub mod GraphRange
 pub mod Completeness
 pub mod HandedOut
 pub mod Determined
+pub mod Lookup

@@ -9,3 +9,4 @@ pub mod AnswerForm
 pub mod AnswerFaults
 pub mod Check
 pub mod Encode
+pub mod Empty
