@@ -10,3 +10,4 @@ pub mod AnswerFaults
 pub mod Check
 pub mod Encode
 pub mod Empty
+pub mod ReadTable
