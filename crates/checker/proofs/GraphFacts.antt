@@ -55,16 +55,17 @@ module _ (s : List ℕ) (right : ArcsRight s) where
       subst (λ k. Before s (arcAt s a) (arcAt s k)) e
       (before-trans s (arcAt s a) (arcAt s (suc (a + d))) (arcAt s (suc (suc (a + d)))) (earlier d a (omega arith)) (right .ascending (suc (a + d)) (omega arith)))
 
+  -- two arcs do not have the same ends
+  pub ends-differ : (j k : ℕ) → j < k → k < arcCount s → arcTail s (arcAt s j) ≡ arcTail s (arcAt s k) → arcHead s (arcAt s j) ≡ arcHead s (arcAt s k) → ⊥
+  ends-differ j k h b p q =
+      let e : suc (j + (k - suc j)) ≡ k = omega arith in
+      not-before s (arcAt s j) (arcAt s k) (subst (λ x. Before s (arcAt s j) (arcAt s x)) e (earlier (k - suc j) j (omega arith))) p q
+
   -- "strictly ascending by tail, then head": no two arcs have the same ends
   pub no-arc-twice : Distinct {A = ℕ × ℕ} (map (λ (a : Arc ℤ). (a .tail, a .head)) (arcsOf s))
   no-arc-twice =
       distinct-tabulate (arcOf s) (λ (a : Arc ℤ). (a .tail, a .head)) (arcCount s) 0
-      (λ j k h b e. apart j k h (omega arith) (ap (λ (p : ℕ × ℕ). p .0) e) (ap (λ (p : ℕ × ℕ). p .1) e))
-    where
-      apart : (j k : ℕ) → j < k → k < arcCount s → arcTail s (arcAt s j) ≡ arcTail s (arcAt s k) → arcHead s (arcAt s j) ≡ arcHead s (arcAt s k) → ⊥
-      apart j k h b p q =
-          let e : suc (j + (k - suc j)) ≡ k = omega arith in
-          not-before s (arcAt s j) (arcAt s k) (subst (λ x. Before s (arcAt s j) (arcAt s x)) e (earlier (k - suc j) j (omega arith))) p q
+      (λ j k h b e. ends-differ j k h (omega arith) (ap (λ (p : ℕ × ℕ). p .0) e) (ap (λ (p : ℕ × ℕ). p .1) e))
 
 read-length : (s : List ℕ) (at : ℕ) → ReadRight s at → length (readVertices s at) ≡ readLength s at
 unfolding part

@@ -23,3 +23,13 @@ pub mod GraphRange
 pub mod Completeness
 pub mod HandedOut
 pub mod Determined
+pub mod Lookup
+-- Laws that the proofs of functions cite.
+pub mod TableLaws
+pub mod OverlapLaws
+pub mod TableRows
+pub mod DropLaws
+pub mod LongestLaws
+pub mod JoinLaws
+pub mod JoinedRead
+pub mod PrepareLaws

@@ -9,3 +9,5 @@ pub mod AnswerForm
 pub mod AnswerFaults
 pub mod Check
 pub mod Encode
+pub mod Empty
+pub mod ReadTable
