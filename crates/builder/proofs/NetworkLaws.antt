@@ -3,12 +3,14 @@ use Prim.Native.Nat.{ℕ, zero, suc, _+_, _*_, _-_, _≤_, _<_, min}
 use native.Mathlib.Omega.{arith}
 use native.Mathlib.Decide.{ℕ-discrete, decLt}
 use native.Mathlib.Numerals.{add-one}
-use mathlib.Core.Path.{_≡_, refl, sym, ap, subst, _∙_}
+use mathlib.Core.Path.{_≡_, refl, sym, ap, ap₂, subst, _∙_}
 use mathlib.Core.List.{List, [], _∷_}
 use mathlib.Core.Logic.{_⊎_, inl, inr, ⊎-elim, _≢_}
+use mathlib.Core.Bool.{cond}
+use borrow.Author.Tests.{eq-eqb, ne-eqb}
 use lib.ListN.{length, getD, set, length-set}
 use lib.Seq.{getD-set-same, getD-set-other}
-use Rattle.builder.specs.Network.{at, Chained, Cleared}
+use Rattle.builder.specs.Network.{at, sumTo, share, Chained, Cleared}
 
 -- two numbers are the same, or they differ
 pub same-or-not : (a b : ℕ) → (a ≡ b) ⊎ (a ≢ b)
@@ -33,6 +35,56 @@ at-set xs i a j h = go (same-or-not j i)
     go (inl e) = inl (e, ap (at (set xs i a)) e ∙ getD-set-same xs i a 0 h)
     go (inr n) = inr (n, getD-set-other xs i j a 0 n)
 
+-- ---- sums
+pub sum-same : (n : ℕ) (f g : ℕ → ℕ) → ((v : ℕ) → v < n → f v ≡ g v) → sumTo n f ≡ sumTo n g
+sum-same zero f g same = refl
+sum-same (suc n) f g same = ap₂ (λ (a b : ℕ). a + b) (sum-same n f g (λ v l. same v (omega arith))) (same n (omega arith))
+
+-- two sums that differ at r alone
+pub sum-change : (n r : ℕ) (f g : ℕ → ℕ) → r < n → ((v : ℕ) → v ≢ r → f v ≡ g v) → sumTo n f + g r ≡ sumTo n g + f r
+sum-change zero r f g l same = absurd (omega arith)
+sum-change (suc n) r f g l same = go (same-or-not r n) (λ l. sum-change n r f g l same)
+  where
+    go : (r ≡ n) ⊎ (r ≢ n) → (r < n → sumTo n f + g r ≡ sumTo n g + f r) → sumTo n f + f n + g r ≡ sumTo n g + g n + f r
+    go (inl e) more = omega (arith, sum-same n f g (λ v l. same v (λ q. omega arith)), ap f e, ap g e)
+    go (inr ne) more = omega (arith, more (omega arith), same n (λ q. ne (sym q)))
+
+pub sum-ones : (n : ℕ) (f : ℕ → ℕ) → ((v : ℕ) → v < n → f v ≡ 1) → sumTo n f ≡ n
+sum-ones zero f one = refl
+sum-ones (suc n) f one = omega (arith, sum-ones n f (λ v l. one v (omega arith)), one n (omega arith))
+
+pub sum-none : (n : ℕ) (f : ℕ → ℕ) → ((v : ℕ) → v < n → f v ≡ 0) → sumTo n f ≡ 0
+sum-none zero f none = refl
+sum-none (suc n) f none = omega (arith, sum-none n f (λ v l. none v (omega arith)), none n (omega arith))
+
+-- a term is not more than its sum
+pub sum-term : (n r : ℕ) (f : ℕ → ℕ) → r < n → f r ≤ sumTo n f
+sum-term zero r f l = absurd (omega arith)
+sum-term (suc n) r f l = go (same-or-not r n) (λ l. sum-term n r f l)
+  where
+    go : (r ≡ n) ⊎ (r ≢ n) → (r < n → f r ≤ sumTo n f) → f r ≤ sumTo n f + f n
+    go (inl e) more = omega (arith, ap f e)
+    go (inr ne) more = omega (arith, more (omega arith))
+
+-- a sum that is not 0 has a term that is not 0
+pub sum-some : (n : ℕ) (f : ℕ → ℕ) → 1 ≤ sumTo n f → (v : ℕ) × (v < n) × (1 ≤ f v)
+sum-some zero f l = absurd (omega arith)
+sum-some (suc n) f l = go (below-or-not 0 (f n)) (λ l. sum-some n f l)
+  where
+    go : (0 < f n) ⊎ (f n ≤ 0) → (1 ≤ sumTo n f → (v : ℕ) × (v < n) × (1 ≤ f v)) → (v : ℕ) × (v < suc n) × (1 ≤ f v)
+    go (inl p) more = (n, omega arith, p)
+    go (inr z) more = let m = more (omega arith) in (m .0, omega arith, m .2)
+
+pub share-same : (u v k : ℕ) → u ≡ v → share u v k ≡ k
+share-same u v k e = ap (λ b. cond b k 0) (eq-eqb u v e)
+
+pub share-other : (u v k : ℕ) → u ≢ v → share u v k ≡ 0
+share-other u v k n = ap (λ b. cond b k 0) (ne-eqb u v n)
+
+pub share-most : (u v k : ℕ) → share u v k ≤ k
+share-most u v k = ⊎-elim (λ e. omega (arith, share-same u v k e)) (λ n. omega (arith, share-other u v k n)) (same-or-not u v)
+
+-- ---- chains of edges
 pub cleared-more : (u : ℕ) (head : List ℕ) → Cleared u head → u < 129 → Cleared (u + 1) (set head u 0)
 cleared-more u head C h = record {
   long = length-set head u 0 ∙ C .long;

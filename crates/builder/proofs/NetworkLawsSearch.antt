@@ -322,3 +322,53 @@ module _ (N E : ℕ) (from to cost load mark : List ℕ) (source u count here : 
         λ g q. C .next-key (h - 1) l g q ∙ key,
         t .1 ∙ w .2,
         t .0)
+
+  abbrev pub BackWalk : ℕ → List ℕ → List ℕ → Type 0
+  BackWalk k dist via =
+      (k ≤ E) × ((f : ℕ) → k ≡ f + 1 → at to f ≡ u) × (at dist u ≡ here) × Growing N E from to cost load mark source u 0 k count dist via rank
+
+  module _ (head next dist via : List ℕ) (L : Lanes N E from to cost mark) where
+    pub back-first : Chained N E to head next → Growing N E from to cost load mark source u 0 E count dist via rank → at dist u ≡ here →
+        BackWalk (at head u) dist via
+    back-first C G d =
+        (C .head-below u (G .node),
+        C .head-key u (G .node),
+        d,
+        back-begun N E from to cost load mark source u count dist via rank L (at head u) (C .head-all u (G .node)) G)
+
+    module _ (C : Chained N E to head next) (k : ℕ) (w : BackWalk k dist via) (pos : 0 < k) where
+      edge : k - 1 < E
+      edge = let a = w .0 in omega arith
+
+      is-next : k ≡ k - 1 + 1
+      is-next = omega arith
+
+      stands : Growing N E from to cost load mark source u 0 (k - 1 + 1) count dist via rank
+      stands = subst (λ x. Growing N E from to cost load mark source u 0 x count dist via rank) is-next (w .3)
+
+      fewer : at next (k - 1) ≤ E
+      fewer = let a = C .next-below (k - 1) edge in let b = edge in omega arith
+
+      rest : (e : ℕ) → e < k - 1 → at to e ≡ u → e < at next (k - 1)
+      rest e b q = C .next-all (k - 1) edge e b (q ∙ sym (w .1 (k - 1) is-next))
+
+      pub back-safe : (k - 1 < 464) × (at from (k - 1) < 129) × (at next (k - 1) < k)
+      back-safe =
+          let a = edge in
+          let b = L .few-edges in
+          let d = L .few-nodes in
+          (omega arith, omega (arith, L .from-node (k - 1) a), omega (arith, C .next-below (k - 1) a))
+
+      pub back-again : 0 < at load (k - 1) → (dist' via' x y : List ℕ) → Lowered dist via (at from (k - 1)) here (2 * (k - 1) + 1) dist' via' →
+          x ≡ dist' → y ≡ via' → BackWalk (at next (k - 1)) x y
+      back-again loaded dist' via' x y low ex ey =
+          let t = back-turn N E from to cost load mark source u count (k - 1) (at next (k - 1)) here dist via rank dist' via' L edge stands
+                (w .1 (k - 1) is-next) rest loaded (sym (w .2)) low in
+          rw (ex, ey) (fewer, λ g q. C .next-key (k - 1) edge g q ∙ w .1 (k - 1) is-next, t .1 ∙ w .2, t .0)
+
+      pub back-skipped : at load (k - 1) ≤ 0 → (x y : List ℕ) → x ≡ dist → y ≡ via → BackWalk (at next (k - 1)) x y
+      back-skipped none x y ex ey =
+          rw (ex, ey) (fewer,
+          λ g q. C .next-key (k - 1) edge g q ∙ w .1 (k - 1) is-next,
+          w .2,
+          back-unloaded N E from to cost load mark source u count (k - 1) (at next (k - 1)) 0 dist via rank dist via L edge stands rest (omega arith))

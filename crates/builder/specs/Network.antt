@@ -161,6 +161,24 @@ pub data Lowered (dist via : List ℕ) (v d p : ℕ) (dist' via' : List ℕ) : T
   nearer : d < at dist v → dist' ≡ set dist v d → via' ≡ set via v p → Lowered dist via v d p dist' via'
   kept : at dist v ≤ d → dist' ≡ dist → via' ≡ via → Lowered dist via v d p dist' via'
 
+-- what a search asks of its source: somewhere behind the root there is a deficit
+pub record Seeking (N E : ℕ) (from to cost mark deficit : List ℕ) (source : ℕ) : Type 0 where
+  pub lanes : Lanes N E from to cost mark
+  pub source-node : source < N
+  pub source-none : at deficit source ≡ 0
+  pub goal : ℕ
+  pub goal-wants : 1 ≤ at deficit goal
+  pub to-root : (c : ℕ) × Way E from to cost source 0 c
+  pub from-root : (c : ℕ) × Way E from to cost 0 goal c
+
+-- nothing is reached yet
+pub record Fresh (N : ℕ) (dist via rank : List ℕ) : Type 0 where
+  pub dist-long : length dist ≡ 129
+  pub via-long : length via ≡ 129
+  pub rank-long : length rank ≡ 129
+  pub nowhere : (v : ℕ) → v < N → at dist v ≡ far
+  pub unsettled : (v : ℕ) → v < N → at rank v ≡ N
+
 -- What a search from a source has found: a target with a deficit, and for each node a distance, along slacks forward and at no cost back along a
 -- loaded edge. A node is settled where its rank is below N. Where no edge shortens a distance below the target's, raising each mark by the lesser of
 -- its node's distance and the target's keeps every slack and makes the hops tight.

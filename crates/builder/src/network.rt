@@ -2,7 +2,7 @@
 ghost use mathlib.Core.Path.{_≡_};
 ghost use Prim.Native.Nat.{ℕ, _+_, _*_, _<_, _≤_};
 ghost use lib.ListN.{length};
-ghost use Rattle.builder.specs.Network.{at, Chained, Keys, Cleared, Lanes, Growing, Nearest, Lowered};
+ghost use Rattle.builder.specs.Network.{at, Chained, Keys, Cleared, Lanes, Growing, Nearest, Lowered, Seeking, Fresh, Found};
 
 // No edge is in a chain yet.
 fn clear(nodes: usize, head: &mut [usize; 129])
@@ -104,4 +104,78 @@ fn relax_out(
         lower(v, d, 2 * e, dist, via);
         h = next[e];
     }
+}
+
+// Looks at the loaded edges that enter u: a load can be taken back at no cost, since a loaded edge has slack 0.
+fn relax_back(
+    nodes: usize,
+    edges: usize,
+    from: &[usize; 464],
+    to: &[usize; 464],
+    cost: &[u64; 464],
+    load: &[u64; 464],
+    mark: &[u64; 129],
+    head: &[usize; 129],
+    next: &[usize; 464],
+    source: usize,
+    u: usize,
+    count: usize,
+    dist: &mut [u64; 129],
+    via: &mut [usize; 129],
+    rank: &[usize; 129],
+)
+    requires { ⌜ Lanes nodes edges (now from) (now to) (now cost) (now mark) ⌝ }
+    requires { ⌜ Chained nodes edges (now to) (now head) (now next) ⌝ }
+    requires { ⌜ Growing nodes edges (now from) (now to) (now cost) (now load) (now mark) source u 0 edges count (now dist) (now via) (now rank) ⌝ }
+    ensures { λ _. ⌜ Growing nodes edges (now (from .entry)) (now (to .entry)) (now (cost .entry)) (now (load .entry)) (now (mark .entry)) source u 0 0 count (now (dist .exit)) (now (via .exit)) (now (rank .entry)) ⌝ }
+{
+    let here = dist[u];
+    let mut h = head[u];
+    while h > 0 {
+        let e = h - 1;
+        if load[e] > 0 {
+            let v = from[e];
+            lower(v, here, 2 * e + 1, dist, via);
+        }
+        h = next[e];
+    }
+}
+
+// The nearest node with a deficit, by the search of Dijkstra on slacks: the nearest node is settled, its edges are looked at, and so on.
+fn search(
+    nodes: usize,
+    edges: usize,
+    from: &[usize; 464],
+    to: &[usize; 464],
+    cost: &[u64; 464],
+    load: &[u64; 464],
+    mark: &[u64; 129],
+    headout: &[usize; 129],
+    nextout: &[usize; 464],
+    headin: &[usize; 129],
+    nextin: &[usize; 464],
+    deficit: &[u64; 129],
+    source: usize,
+    dist: &mut [u64; 129],
+    via: &mut [usize; 129],
+    rank: &mut [usize; 129],
+) -> usize
+    requires { ⌜ Seeking nodes edges (now from) (now to) (now cost) (now mark) (now deficit) source ⌝ }
+    requires { ⌜ Chained nodes edges (now from) (now headout) (now nextout) ⌝ }
+    requires { ⌜ Chained nodes edges (now to) (now headin) (now nextin) ⌝ }
+    requires { ⌜ Fresh nodes (now dist) (now via) (now rank) ⌝ }
+    ensures { λ r. ⌜ Found nodes edges (now (from .entry)) (now (to .entry)) (now (cost .entry)) (now (load .entry)) (now (mark .entry)) (now (deficit .entry)) source r (now (dist .exit)) (now (via .exit)) (now (rank .exit)) ⌝ }
+{
+    dist[source] = 0;
+    rank[source] = 0;
+    let mut u = source;
+    let mut count: usize = 1;
+    while deficit[u] == 0 {
+        relax_out(nodes, edges, from, to, cost, load, mark, headout, nextout, source, u, count, dist, via, rank);
+        relax_back(nodes, edges, from, to, cost, load, mark, headin, nextin, source, u, count, dist, via, rank);
+        u = nearest(nodes, dist, rank);
+        rank[u] = count;
+        count += 1;
+    }
+    u
 }
