@@ -1,0 +1,4 @@
+-- The laws that the builder's proofs cite.
+pub mod NetworkLaws
+pub mod NetworkLawsSearch
+pub mod NetworkLawsSettle
