@@ -33,3 +33,4 @@ pub mod LongestLaws
 pub mod JoinLaws
 pub mod JoinedRead
 pub mod PrepareLaws
+pub mod CertifyLawsSlack
