@@ -2,3 +2,5 @@
 pub mod NetworkLaws
 pub mod NetworkLawsSearch
 pub mod NetworkLawsSettle
+pub mod FinishLawsSlots
+pub mod Certificate
