@@ -34,7 +34,7 @@ use Rattle.mathematics.proofs.Network.{slack}
 use Rattle.mathematics.proofs.Links.{Link, opening, closing, inside, across, inNode, outNode, linkFrom, linkTo, AtEnds}
 use Rattle.mathematics.proofs.Wired.{Node, node-cases, linkCost, edgeOf}
 use Rattle.mathematics.proofs.Marked.{sideMark, marksOf, side-among, Spread, open-slack, close-slack, inside-slack, across-slack, slacks-hold}
-use Rattle.checker.specs.Limits.{maxPaths, maxWeight, maxMark}
+use Rattle.checker.specs.Limits.{maxPaths, maxWeight}
 use Rattle.checker.specs.Bytes.{tabulate}
 use Rattle.checker.specs.GraphForm.{vertexCount, arcCount, openingPrice, arcAt, arcTail, arcHead, arcCost, vertexDemand, arcDemand}
 use Rattle.checker.specs.GraphOf.{vertexOf, arcOf, graphOf}

@@ -4,18 +4,19 @@ use native.Mathlib.Omega.{arith}
 use native.Mathlib.Numerals.{add-one}
 use native.Mathlib.Decide.{decLt}
 use native.Mathlib.Nat.{add-zero}
-use mathlib.Core.Path.{_≡_, refl, sym, ap, ap₂, subst, _∙_}
+use mathlib.Core.Path.{_≡_, refl, sym, ap, subst, _∙_}
 use mathlib.Core.List.{List, [], _∷_, _++_, append-nil, append-assoc}
 use mathlib.Core.Bool.{Bool, true, false, cond, _||_}
-use lib.ListN.{length, getD, take, drop, set, length-set, length-take, drop-of-length-le}
+use lib.ListN.{length, getD, take, drop, set, length-set, drop-of-length-le}
 use lib.Seq.{take-suc, drop-cons, take-take, take-suc-set, drop-set-lt, drop-drop, getD-drop, getD-set-same, getD-set-other}
 use Rattle.mathematics.specs.Lists.{All, someHolds}
 use Rattle.mathematics.specs.Prepare.{someLonger, dropParts}
 use Rattle.mathematics.proofs.Dropped.{dropped-all}
-use Rattle.checker.specs.ReadTable.{rowAt, used, rowsOf, ReadHolds, RowHolds, TableHolds, heldFrom, longerFrom, gone}
+use Rattle.checker.specs.ReadTable.{rowAt, used, rowsOf, ReadHolds, TableHolds, heldFrom, longerFrom, gone}
 use Rattle.checker.proofs.TableLaws.{at-all}
 use Rattle.checker.proofs.TableRows.{used-set, used-rows, used-row, table-length, table-get}
 
+-- what holds of all and of a new element holds after it is stored
 pub all-set : {A : Type 0} (P : A → Type 0) (xs : List A) (i : ℕ) (x : A) → All P xs → P x → All P (set xs i x)
 all-set P [] i x h p = tt
 all-set P (y ∷ xs) zero x h p = (p, h .1)
@@ -25,7 +26,8 @@ all-set P (y ∷ xs) (suc i) x h p = (h .0, all-set P xs i x (h .1) p)
 abbrev Left : List (List ℕ) → ℕ → List (List ℕ)
 Left rs i = dropParts (take i rs) (drop i rs)
 
-left-step : (rs : List (List ℕ)) (i : ℕ) → i < length rs → Left rs i ≡ cond (someHolds (take i rs) (getD rs i []) || someLonger (drop (i + 1) rs) (getD rs i [])) (Left rs (i + 1)) (getD rs i [] ∷ Left rs (i + 1))
+left-step : (rs : List (List ℕ)) (i : ℕ) → i < length rs →
+    Left rs i ≡ cond (someHolds (take i rs) (getD rs i []) || someLonger (drop (i + 1) rs) (getD rs i [])) (Left rs (i + 1)) (getD rs i [] ∷ Left rs (i + 1))
 left-step rs i l = rw (add-one i, take-suc rs i [] l, drop-cons rs i [] l)
 
 module _ (rows : List (List ℕ)) (lens : List ℕ) (count : ℕ) (t : TableHolds rows lens count) (i : ℕ) (l : i < count) where
@@ -39,7 +41,8 @@ module _ (rows : List (List ℕ)) (lens : List ℕ) (count : ℕ) (t : TableHold
       left-step (rowsOf rows lens count) i (omega (arith, table-length rows lens count t))
       ∙ ap (λ (b : Bool). cond b (Left (rowsOf rows lens count) (i + 1)) (getD (rowsOf rows lens count) i [] ∷ Left (rowsOf rows lens count) (i + 1))) (sym (e ∙ gone-test))
 
-  left-kept : false ≡ gone rows lens count i → Left (rowsOf rows lens count) i ≡ getD (rowsOf rows lens count) i [] ∷ Left (rowsOf rows lens count) (i + 1)
+  left-kept : false ≡ gone rows lens count i →
+      Left (rowsOf rows lens count) i ≡ getD (rowsOf rows lens count) i [] ∷ Left (rowsOf rows lens count) (i + 1)
   left-kept e =
       left-step (rowsOf rows lens count) i (omega (arith, table-length rows lens count t))
       ∙ ap (λ (b : Bool). cond b (Left (rowsOf rows lens count) (i + 1)) (getD (rowsOf rows lens count) i [] ∷ Left (rowsOf rows lens count) (i + 1))) (sym (e ∙ gone-test))
@@ -56,6 +59,7 @@ pub record Moved (rows₀ : List (List ℕ)) (lens₀ : List ℕ) (count : ℕ) 
   pub rest : drop i (used rows lens) ≡ drop i (used rows₀ lens₀)
   pub kept : take w (used rows lens) ++ dropParts (take i (rowsOf rows₀ lens₀ count)) (drop i (rowsOf rows₀ lens₀ count)) ≡ dropParts [] (rowsOf rows₀ lens₀ count)
 
+-- nothing looked at, nothing kept
 pub moved-start : (rows : List (List ℕ)) (lens : List ℕ) (count : ℕ) → TableHolds rows lens count → Moved rows lens count rows lens 0 0
 moved-start rows lens count t =
     record {
@@ -74,12 +78,14 @@ moved-start rows lens count t =
 pub later : {A : Type 0} (xs ys : List A) (i : ℕ) → drop i xs ≡ drop i ys → drop (i + 1) xs ≡ drop (i + 1) ys
 later xs ys i e = sym (drop-drop 1 i xs) ∙ (ap (drop 1) e ∙ drop-drop 1 i ys)
 
+-- two lists that agree from a place on agree at that place
 pub there : {A : Type 0} (d : A) (xs ys : List A) (i : ℕ) → drop i xs ≡ drop i ys → getD xs i d ≡ getD ys i d
 there d xs ys i e =
     ap (λ (k : ℕ). getD xs k d) (sym (add-zero i))
     ∙ (sym (getD-drop i xs 0 d) ∙ (ap (λ (l : List _). getD l 0 d) e ∙ (getD-drop i ys 0 d ∙ ap (λ (k : ℕ). getD ys k d) (add-zero i))))
 
 module _ (rows₀ : List (List ℕ)) (lens₀ : List ℕ) (count : ℕ) (rows : List (List ℕ)) (lens : List ℕ) (i w : ℕ) (t : TableHolds rows₀ lens₀ count) (m : Moved rows₀ lens₀ count rows lens i w) where
+  -- a read that is dropped stays behind
   pub moved-skip : i < count → true ≡ gone rows₀ lens₀ count i → Moved rows₀ lens₀ count rows lens (i + 1) w
   moved-skip l e =
       record {
@@ -101,11 +107,13 @@ module _ (rows₀ : List (List ℕ)) (lens₀ : List ℕ) (count : ℕ) (rows : 
       ∙ (there [] (used rows lens) (used rows₀ lens₀) i (m .rest)
       ∙ (used-row rows₀ lens₀ (t .tall) (t .sized) i (omega (arith, t .counted)) ∙ sym (table-get rows₀ lens₀ count t i l)))
 
-  keep-used : i < count → used (set rows w (getD rows i [])) (set lens w (getD lens i 0)) ≡ set (used rows lens) w (getD (rowsOf rows₀ lens₀ count) i [])
+  keep-used : i < count →
+      used (set rows w (getD rows i [])) (set lens w (getD lens i 0)) ≡ set (used rows lens) w (getD (rowsOf rows₀ lens₀ count) i [])
   keep-used l =
       used-set rows lens w (getD rows i []) (getD lens i 0) ∙ ap (set (used rows lens) w) (keep-read l)
 
-  keep-front : i < count → take (w + 1) (used (set rows w (getD rows i [])) (set lens w (getD lens i 0))) ≡ take w (used rows lens) ++ (getD (rowsOf rows₀ lens₀ count) i [] ∷ [])
+  keep-front : i < count →
+      take (w + 1) (used (set rows w (getD rows i [])) (set lens w (getD lens i 0))) ≡ take w (used rows lens) ++ (getD (rowsOf rows₀ lens₀ count) i [] ∷ [])
   keep-front l =
       ap (take (w + 1)) (keep-used l)
       ∙ rw (add-one w) (take-suc-set (used rows lens) w (getD (rowsOf rows₀ lens₀ count) i []) (omega (arith, used-rows rows lens (m .tall) (m .sized), m .less, t .counted)))
@@ -120,7 +128,9 @@ module _ (rows₀ : List (List ℕ)) (lens₀ : List ℕ) (count : ℕ) (rows : 
             rw here (omega (arith, put, m .same i (omega arith), t .fit i l))
       ]
 
-  pub moved-keep : i < count → false ≡ gone rows₀ lens₀ count i → Moved rows₀ lens₀ count (set rows w (getD rows i [])) (set lens w (getD lens i 0)) (i + 1) (w + 1)
+  -- a read that is kept goes to the next free row
+  pub moved-keep : i < count → false ≡ gone rows₀ lens₀ count i →
+      Moved rows₀ lens₀ count (set rows w (getD rows i [])) (set lens w (getD lens i 0)) (i + 1) (w + 1)
   moved-keep l e =
       record {
         far = omega arith;
@@ -137,6 +147,7 @@ module _ (rows₀ : List (List ℕ)) (lens₀ : List ℕ) (count : ℕ) (rows : 
             ∙ (ap (λ (q : List (List ℕ)). take w (used rows lens) ++ q) (sym (left-kept rows₀ lens₀ count t i l e)) ∙ m .kept));
       }
 
+  -- at the end the kept rows are what dropping leaves
   pub moved-end : count ≤ i → rowsOf rows lens w ≡ dropParts [] (rowsOf rows₀ lens₀ count)
   unfolding rowsOf
   moved-end l =
@@ -145,6 +156,7 @@ module _ (rows₀ : List (List ℕ)) (lens₀ : List ℕ) (count : ℕ) (rows : 
       (sym (drop-of-length-le (rowsOf rows₀ lens₀ count) {i = i} (omega (arith, table-length rows₀ lens₀ count t))))
       ∙ m .kept)
 
+  -- and they are a table of reads
   pub moved-table : count ≤ i → TableHolds rows lens w
   moved-table l =
       record {

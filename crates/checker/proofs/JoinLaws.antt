@@ -1,22 +1,17 @@
 -- Joining two reads in the table: the joined row is built, the row that is taken out is closed up, and the joined read rises, so that it fits a row.
-use Prim.Native.Nat.{ℕ, zero, suc, _+_, _-_, _≤_, _<_, min, max}
+use Prim.Native.Nat.{ℕ, zero, suc, _+_, _-_, _≤_, _<_}
 use native.Mathlib.Omega.{arith}
 use native.Mathlib.Numerals.{add-one}
 use native.Mathlib.Decide.{ℕ-discrete}
-use mathlib.Core.Path.{_≡_, refl, sym, ap, ap₂, subst, subst₂, _∙_}
+use mathlib.Core.Path.{_≡_, refl, sym, ap, subst, _∙_}
 use mathlib.Core.List.{List, [], _∷_, _++_, append-nil, append-assoc}
-use mathlib.Core.Logic.{_⊎_, inl, inr}
-use lib.ListN.{length, getD, take, drop, set, length-append, length-set, length-take, length-drop, drop-of-length-le}
-use lib.Seq.{take-suc, drop-cons, take-nil, drop-append-seam, take-suc-set, take-set-lt, drop-set-lt, drop-drop, getD-drop, getD-set-same, getD-set-other}
+use lib.ListN.{length, getD, take, drop, set, length-set, drop-of-length-le}
+use lib.Seq.{take-suc, drop-cons, take-nil, take-suc-set, take-set-lt, drop-set-lt, getD-set-same, getD-set-other}
 use Rattle.mathematics.specs.Lists.{All}
-use Rattle.mathematics.specs.Prepare.{overlap, Meeting, longest, without, joinAt}
-use Rattle.mathematics.proofs.Basics.{all-weaken, all-append, all-left, all-right}
-use Rattle.mathematics.proofs.Parts.{Rising}
-use Rattle.mathematics.proofs.Overlap.{Meet, overlap-meets}
-use Rattle.mathematics.proofs.Longest.{Meets, longest-meets}
-use Rattle.checker.specs.ReadTable.{rowAt, used, rowsOf, ReadHolds, RowHolds, TableHolds, Leaves, joinOf}
-use Rattle.checker.proofs.TableLaws.{at-all, row-get, climbs-rising, rising-climbs}
-use Rattle.checker.proofs.TableRows.{used-set, used-rows, used-row, table-length, table-get, table-row}
+use Rattle.mathematics.specs.Prepare.{without}
+use Rattle.checker.specs.ReadTable.{rowAt, used, rowsOf, ReadHolds, RowHolds, TableHolds, joinOf}
+use Rattle.checker.proofs.TableLaws.{at-all, row-get}
+use Rattle.checker.proofs.TableRows.{used-set, used-rows, used-row}
 use Rattle.checker.proofs.DropLaws.{all-set, later, there}
 
 module _ {A : Type 0} where
@@ -37,7 +32,7 @@ module _ {A : Type 0} where
   get-without d (suc gap) zero (x ∷ xs) l = absurd (omega arith)
   get-without d (suc gap) (suc k) (x ∷ xs) l = get-without d gap k xs (omega arith)
 
-  pub length-without : (gap : ℕ) (xs : List A) → gap < length xs → suc (length (without gap xs)) ≡ length xs
+  length-without : (gap : ℕ) (xs : List A) → gap < length xs → suc (length (without gap xs)) ≡ length xs
   length-without gap [] l = absurd (omega arith)
   length-without zero (x ∷ xs) l = refl
   length-without (suc gap) (x ∷ xs) l = ap suc (length-without gap xs (omega arith))
@@ -58,7 +53,9 @@ pub record Gap (rows₀ : List (List ℕ)) (lens₀ : List ℕ) (count gap : ℕ
   pub done : take k (used rows lens) ≡ take k (without gap (used rows₀ lens₀))
   pub rest : drop k (used rows lens) ≡ drop k (used rows₀ lens₀)
 
-pub gap-start : (rows : List (List ℕ)) (lens : List ℕ) (count gap : ℕ) → TableHolds rows lens count → gap < count → Gap rows lens count gap rows lens gap
+-- nothing moved yet
+pub gap-start : (rows : List (List ℕ)) (lens : List ℕ) (count gap : ℕ) → TableHolds rows lens count → gap < count →
+    Gap rows lens count gap rows lens gap
 gap-start rows lens count gap t l =
     record {
       from = omega arith;
@@ -79,10 +76,12 @@ module _ (rows₀ : List (List ℕ)) (lens₀ : List ℕ) (count gap : ℕ) (row
       ∙ (there [] (used rows lens) (used rows₀ lens₀) (k + 1) (later (used rows lens) (used rows₀ lens₀) k (g .rest))
       ∙ (ap (λ (n : ℕ). getD (used rows₀ lens₀) n []) (add-one k) ∙ sym (get-without [] gap k (used rows₀ lens₀) (g .from))))
 
-  gap-used : k + 1 < count → used (set rows k (getD rows (k + 1) [])) (set lens k (getD lens (k + 1) 0)) ≡ set (used rows lens) k (getD (without gap (used rows₀ lens₀)) k [])
+  gap-used : k + 1 < count →
+      used (set rows k (getD rows (k + 1) [])) (set lens k (getD lens (k + 1) 0)) ≡ set (used rows lens) k (getD (without gap (used rows₀ lens₀)) k [])
   gap-used l = used-set rows lens k (getD rows (k + 1) []) (getD lens (k + 1) 0) ∙ ap (set (used rows lens) k) (gap-read l)
 
-  gap-done : k + 1 < count → take (k + 1) (set (used rows lens) k (getD (without gap (used rows₀ lens₀)) k [])) ≡ take (k + 1) (without gap (used rows₀ lens₀))
+  gap-done : k + 1 < count →
+      take (k + 1) (set (used rows lens) k (getD (without gap (used rows₀ lens₀)) k [])) ≡ take (k + 1) (without gap (used rows₀ lens₀))
   gap-done l =
       let rows16 : length (used rows₀ lens₀) ≡ 16 = used-rows rows₀ lens₀ (t .tall) (t .sized) in
       rw (add-one k)
@@ -97,6 +96,7 @@ module _ (rows₀ : List (List ℕ)) (lens₀ : List ℕ) (count gap : ℕ) (row
         | no n ↦ omega (arith, getD-set-other lens k m (getD lens (k + 1) 0) 0 n, g .fit m h)
       ]
 
+  -- one row moves up
   pub gap-turn : k + 1 < count → Gap rows₀ lens₀ count gap (set rows k (getD rows (k + 1) [])) (set lens k (getD lens (k + 1) 0)) (k + 1)
   gap-turn l =
       record {
@@ -112,6 +112,7 @@ module _ (rows₀ : List (List ℕ)) (lens₀ : List ℕ) (count gap : ℕ) (row
             ∙ (drop-set-lt (k + 1) (used rows lens) k (getD (without gap (used rows₀ lens₀)) k []) (omega arith) ∙ later (used rows lens) (used rows₀ lens₀) k (g .rest));
       }
 
+  -- at the end the rows are those without the gap
   pub gap-end : count - 1 ≤ k → rowsOf rows lens (count - 1) ≡ without gap (rowsOf rows₀ lens₀ count)
   unfolding rowsOf
   gap-end l =
@@ -119,6 +120,7 @@ module _ (rows₀ : List (List ℕ)) (lens₀ : List ℕ) (count gap : ℕ) (row
       let more : count ≡ suc k = omega (arith, g .far) in
       rw last (rw more (g .done ∙ sym (without-take gap k (used rows₀ lens₀) (g .from))))
 
+  -- and they are a table of reads
   pub gap-table : count - 1 ≤ k → TableHolds rows lens (count - 1)
   gap-table l =
       record {
@@ -137,12 +139,16 @@ pub record Built (rows : List (List ℕ)) (lens : List ℕ) (i j n : ℕ) (row :
   pub far : k ≤ getD lens j 0
   pub read : take at row ++ drop k (rowAt rows lens j) ≡ joinOf rows lens i j n
 
-pub built-start : (rows : List (List ℕ)) (lens : List ℕ) (i j n : ℕ) → RowHolds rows lens i → n ≤ getD lens j 0 → Built rows lens i j n (getD rows i []) (getD lens i 0) n
+-- the first read is copied
+pub built-start : (rows : List (List ℕ)) (lens : List ℕ) (i j n : ℕ) → RowHolds rows lens i → n ≤ getD lens j 0 →
+    Built rows lens i j n (getD rows i []) (getD lens i 0) n
 unfolding joinOf rowAt
 built-start rows lens i j n g l = record { wide = g .wide; even = refl; far = l; read = refl }
 
 module _ (rows : List (List ℕ)) (lens : List ℕ) (i j n : ℕ) (row : List ℕ) (at k : ℕ) (b : Built rows lens i j n row at k) (g : RowHolds rows lens j) where
-  pub built-turn : k < getD lens j 0 → getD lens i 0 + getD lens j 0 ≤ 64 + n → Built rows lens i j n (set row at (getD (getD rows j []) k 0)) (at + 1) (k + 1)
+  -- one more number of the second read is copied
+  pub built-turn : k < getD lens j 0 → getD lens i 0 + getD lens j 0 ≤ 64 + n →
+      Built rows lens i j n (set row at (getD (getD rows j []) k 0)) (at + 1) (k + 1)
   built-turn l m =
       record {
         wide = length-set row at (getD (getD rows j []) k 0) ∙ b .wide;
@@ -156,6 +162,7 @@ module _ (rows : List (List ℕ)) (lens : List ℕ) (i j n : ℕ) (row : List �
             ∙ (ap (λ (q : List ℕ). take at row ++ q) (sym (drop-cons (rowAt rows lens j) k 0 (omega (arith, g .long)))) ∙ b .read))));
       }
 
+  -- all of it is copied: the row holds the joined read
   pub built-end : getD lens j 0 ≤ k → take (getD lens i 0 + getD lens j 0 - n) row ≡ joinOf rows lens i j n
   built-end l =
       let here : getD lens i 0 + getD lens j 0 - n ≡ at = omega (arith, b .even, b .far) in
@@ -165,6 +172,7 @@ module _ (rows : List (List ℕ)) (lens : List ℕ) (i j n : ℕ) (row : List �
 
 -- a store of a read into a row of the table
 module _ (rows : List (List ℕ)) (lens : List ℕ) (count low : ℕ) (row : List ℕ) (size : ℕ) (t : TableHolds rows lens count) (l : low < count) where
+  -- the reads after the store
   pub put-reads : rowsOf (set rows low row) (set lens low size) count ≡ set (rowsOf rows lens count) low (take size row)
   unfolding rowsOf
   put-reads = ap (take count) (used-set rows lens low row size) ∙ take-set-lt count (used rows lens) low (take size row) l
@@ -176,6 +184,7 @@ module _ (rows : List (List ℕ)) (lens : List ℕ) (count low : ℕ) (row : Lis
         | no n ↦ omega (arith, getD-set-other lens low m size 0 n, t .fit m h)
       ]
 
+  -- and they are a table of reads
   pub put-table : length row ≡ 64 → size ≤ 64 → ReadHolds (take size row) → TableHolds (set rows low row) (set lens low size) count
   put-table w s r =
       record {

@@ -1,18 +1,18 @@
 -- The joined read of the pair with the longest overlap is a read again: it rises, so it is no longer than there are vertices; and the table's join is `joinAt`.
-use Prim.Native.Nat.{ℕ, zero, suc, _+_, _-_, _≤_, _<_, min, max}
+use Prim.Native.Nat.{ℕ, suc, _+_, _≤_, _<_, min, max}
 use native.Mathlib.Omega.{arith}
-use mathlib.Core.Path.{_≡_, refl, sym, ap, ap₂, subst, _∙_}
+use mathlib.Core.Path.{_≡_, sym, ap, ap₂, subst, _∙_}
 use mathlib.Core.List.{List, [], _∷_, _++_, append-assoc}
-use mathlib.Core.Logic.{_⊎_, inl, inr}
-use lib.ListN.{length, getD, take, drop, set, length-append, length-drop}
+use mathlib.Core.Logic.{inl, inr}
+use lib.ListN.{length, getD, drop, set, length-append, length-drop}
 use lib.Seq.{drop-append-seam}
 use Rattle.mathematics.specs.Lists.{All}
 use Rattle.mathematics.specs.Prepare.{overlap, Meeting, longest, without, joinAt}
 use Rattle.mathematics.proofs.Basics.{all-weaken, all-append, all-left, all-right}
 use Rattle.mathematics.proofs.Parts.{Rising}
-use Rattle.mathematics.proofs.Overlap.{Meet, overlap-meets}
+use Rattle.mathematics.proofs.Overlap.{overlap-meets}
 use Rattle.mathematics.proofs.Longest.{Meets, longest-meets}
-use Rattle.checker.specs.ReadTable.{rowAt, rowsOf, ReadHolds, RowHolds, TableHolds, joinOf}
+use Rattle.checker.specs.ReadTable.{rowAt, rowsOf, ReadHolds, TableHolds, joinOf}
 use Rattle.checker.proofs.TableLaws.{climbs-rising, rising-climbs}
 use Rattle.checker.proofs.TableRows.{table-length, table-get, table-row}
 
@@ -60,15 +60,15 @@ overlap-less a b l =
 pub record Joins (rows : List (List ℕ)) (lens : List ℕ) (count : ℕ) (m : Meeting) : Type 0 where
   pub i-below : m .i < count
   pub j-below : m .j < count
-  pub differ : m .i ≡ m .j → ⊥
   pub part : m .length ≤ getD lens (m .j) 0
   pub room : getD lens (m .i) 0 + getD lens (m .j) 0 ≤ 64 + m .length
   pub read : ReadHolds (joinOf rows lens (m .i) (m .j) (m .length))
 
 module _ (rows : List (List ℕ)) (lens : List ℕ) (count : ℕ) (t : TableHolds rows lens count) (m : Meeting) where
-  joins-at : m .i < count → m .j < count → (m .i ≡ m .j → ⊥) → m .length ≡ overlap (rowAt rows lens (m .i)) (rowAt rows lens (m .j)) → 1 ≤ m .length → Joins rows lens count m
+  joins-at : m .i < count → m .j < count → m .length ≡ overlap (rowAt rows lens (m .i)) (rowAt rows lens (m .j)) → 1 ≤ m .length →
+      Joins rows lens count m
   unfolding joinOf
-  joins-at li lj d e l =
+  joins-at li lj e l =
       let a = rowAt rows lens (m .i) in
       let b = rowAt rows lens (m .j) in
       let gi = table-row rows lens count t (m .i) li in
@@ -78,7 +78,6 @@ module _ (rows : List (List ℕ)) (lens : List ℕ) (count : ℕ) (t : TableHold
       record {
         i-below = li;
         j-below = lj;
-        differ = d;
         part = omega (arith, e, overlap-less a b some, gj .long);
         room = omega (arith, gi .long, gj .long, read-size (a ++ drop (m .length) b) r, length-append a (drop (m .length) b), length-drop (m .length) b);
         read = r;
@@ -93,7 +92,7 @@ module _ (rows : List (List ℕ)) (lens : List ℕ) (count : ℕ) (t : TableHold
             let g : Meets (rowsOf rows lens count) m = subst (Meets (rowsOf rows lens count)) (sym e) h in
             let li : m .i < count = omega (arith, g .i-below, table-length rows lens count t) in
             let lj : m .j < count = omega (arith, g .j-below, table-length rows lens count t) in
-            joins-at li lj (g .differ)
+            joins-at li lj
             (g .size ∙ ap₂ overlap (table-get rows lens count t (m .i) li) (table-get rows lens count t (m .j) lj)) l
       ]
 
@@ -103,6 +102,10 @@ module _ (rows : List (List ℕ)) (lens : List ℕ) (count : ℕ) (t : TableHold
     join-read =
         e ∙ sym (ap₂ (λ (a b : List ℕ). a ++ drop (m .length) b) (table-get rows lens count t (m .i) (f .i-below)) (table-get rows lens count t (m .j) (f .j-below)))
 
+    -- the joined read is a read
+    pub join-holds : ReadHolds read
+    join-holds = subst ReadHolds (sym e) (f .read)
+
     -- "Replace both by the joined read, in the lower of the two places."
     pub join-before : m .i < m .j → without (m .j) (set (rowsOf rows lens count) (m .i) read) ≡ joinAt m (rowsOf rows lens count)
     unfolding joinAt
@@ -111,6 +114,7 @@ module _ (rows : List (List ℕ)) (lens : List ℕ) (count : ℕ) (t : TableHold
         let low : min (m .i) (m .j) ≡ m .i = omega arith in
         rw (high, low, join-read)
 
+    -- the same where the second of the pair stands lower
     pub join-after : m .j ≤ m .i → without (m .i) (set (rowsOf rows lens count) (m .j) read) ≡ joinAt m (rowsOf rows lens count)
     unfolding joinAt
     join-after l =

@@ -2,6 +2,10 @@
 pub mod Scan
 pub mod HeaderLaws
 pub mod RecordLaws
+pub mod AnswerLaws
+pub mod AnswerReads
+pub mod AnswerWalk
+pub mod AnswerPaths
 pub mod ArcLaws
 pub mod WalkLaws
 pub mod ReadLaws
@@ -9,6 +13,16 @@ pub mod RightLaws
 pub mod ThenLaws
 pub mod GraphReads
 pub mod GraphFacts
+pub mod Lookup
+-- The laws of the table of reads.
+pub mod TableLaws
+pub mod OverlapLaws
+pub mod TableRows
+pub mod DropLaws
+pub mod LongestLaws
+pub mod JoinLaws
+pub mod JoinedRead
+pub mod PrepareLaws
 -- The theorems of the checker: what a verdict of 0 says, soundness, the marked rows, the answer form written and read back, completeness, the hand-out.
 pub mod Accepted
 pub mod Ascending
@@ -23,14 +37,4 @@ pub mod GraphRange
 pub mod Completeness
 pub mod HandedOut
 pub mod Determined
-pub mod Lookup
--- Laws that the proofs of functions cite.
-pub mod TableLaws
-pub mod OverlapLaws
-pub mod TableRows
-pub mod DropLaws
-pub mod LongestLaws
-pub mod JoinLaws
-pub mod JoinedRead
-pub mod PrepareLaws
 pub mod CertifyLawsSlack

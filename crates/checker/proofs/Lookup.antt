@@ -4,19 +4,22 @@ use native.Mathlib.Omega.{arith}
 use native.Mathlib.Decide.{decLe}
 use mathlib.Core.Path.{_≡_, refl, sym, ap, subst, _∙_}
 use mathlib.Core.List.{List}
-use mathlib.Core.Bool.{Bool, true, false, cond, _&&_}
+use mathlib.Core.Bool.{Bool, true, false, cond}
 use mathlib.Core.Logic.{_↔_}
 use lib.Dec.{eqb}
 use lib.IntN.{ℤ}
+use lib.ListN.{length}
+use lib.Seq.{ext-getD}
 use borrow.Author.Tests.{eq-eqb, eqb-true}
 use Rattle.mathematics.specs.Graph.{Arc, joins, hasArc}
 use Rattle.checker.specs.declared.Found.{Found}
 use Rattle.checker.specs.declared.Found.the-variants.{At, Missing}
 use Rattle.checker.specs.Bytes.{tabulate}
+use Rattle.checker.specs.Limits.{maxVertices}
 use Rattle.checker.specs.GraphForm.{arcCount}
 use Rattle.checker.specs.GraphOf.{arcOf, arcsOf}
 use Rattle.checker.specs.GraphReads.{ArcsRight}
-use Rattle.checker.specs.ArcTable.{numberFrom, arcNumber}
+use Rattle.checker.specs.ArcTable.{numberFrom, arcNumber, ArcTable}
 use Rattle.checker.proofs.RightLaws.{both}
 use Rattle.checker.proofs.ArcLaws.{tailOf, headOf, next, here}
 use Rattle.checker.proofs.WalkLaws.{isAt, found-is}
@@ -75,3 +78,8 @@ module _ (s : List ℕ) (u v : ℕ) where
           let ends = both (eqb (tailOf s j) u) (eqb (headOf s j) v) t in
           absurd (ends-differ s right j k l (g .0) (eqb-true _ _ (ends .0) ∙ sym (g .1)) (eqb-true _ _ (ends .1) ∙ sym (g .2)))
       other j l false t g = refl
+
+-- any two tables of first arcs of a form are equal: the promise of `first_arcs` determines its result
+pub tables-agree : (s one other : List ℕ) → length one ≡ maxVertices + 1 → length other ≡ maxVertices + 1 → ArcTable s one → ArcTable s other → one ≡ other
+tables-agree s one other m n a b =
+    ext-getD 0 one other (m ∙ sym n) (λ u h. a .at u (omega arith) ∙ sym (b .at u (omega arith)))

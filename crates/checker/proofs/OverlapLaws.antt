@@ -4,17 +4,17 @@ use native.Mathlib.Omega.{arith}
 use native.Mathlib.Nat.{add-zero, eq-or-lt-of-le}
 use native.Mathlib.Decide.{decLt}
 use mathlib.Core.Path.{_≡_, refl, sym, ap, subst, subst₂, _∙_}
-use mathlib.Core.List.{List, [], _∷_, _++_}
+use mathlib.Core.List.{List, [], _++_}
 use mathlib.Core.Bool.{Bool, true, false, cond}
 use mathlib.Core.Logic.{_⊎_, inl, inr}
 use lib.Dec.{T}
-use lib.ListN.{length, getD, take, drop, length-append, length-take, length-drop, take-append-drop, List·getD-append}
+use lib.ListN.{length, getD, drop, length-append, List·getD-append}
 use lib.Seq.{getD-append-add, drop-append-seam}
 use Rattle.mathematics.specs.Lists.{begins}
 use Rattle.mathematics.specs.Prepare.{overlapUpTo, overlap}
 use Rattle.mathematics.proofs.Parts.{begins-append}
-use Rattle.mathematics.proofs.Overlap.{Meet, overlap-meets}
-use Rattle.checker.specs.ReadTable.{rowAt, runs, Climbs, ReadHolds, RowHolds, Place}
+use Rattle.mathematics.proofs.Overlap.{overlap-meets}
+use Rattle.checker.specs.ReadTable.{rowAt, runs, Climbs, RowHolds, Place}
 use Rattle.checker.proofs.TableLaws.{row-get, last-get, climbs-at, climbs-to, climbs-last}
 
 -- a number stands at one place of a list that climbs
@@ -150,12 +150,15 @@ module _ (rows : List (List ℕ)) (lens : List ℕ) (i j : ℕ) (gi : RowHolds r
   first-get = row-get rows lens i 0 (omega (arith, gi .long, gi .read .some))
 
 module _ (rows : List (List ℕ)) (lens : List ℕ) (i j : ℕ) (gi : RowHolds rows lens i) (gj : RowHolds rows lens j) where
-  pub meets-under : (floor : ℕ) → floor < getD lens i 0 → getD (getD rows i []) (getD lens i 0 - 1 - floor) 0 < getD (getD rows j []) 0 0 → overlap (rowAt rows lens i) (rowAt rows lens j) ≤ floor
+  -- where the number that far from the end is below the second read's first, the overlap is no longer than floor
+  pub meets-under : (floor : ℕ) → floor < getD lens i 0 → getD (getD rows i []) (getD lens i 0 - 1 - floor) 0 < getD (getD rows j []) 0 0 →
+      overlap (rowAt rows lens i) (rowAt rows lens j) ≤ floor
   meets-under floor l h =
       overlap-under (rowAt rows lens i) (rowAt rows lens j) (gi .read .climbs) (gj .read .climbs) (gi .read .some) (gj .read .some) floor
       (omega (arith, gi .long))
       (rw (gi .long, row-get rows lens i (getD lens i 0 - 1 - floor) (omega arith), first-get rows lens j i gj gi) h)
 
+  -- an overlap is no longer than the first read
   pub meets-short : (floor : ℕ) → getD lens i 0 ≤ floor → overlap (rowAt rows lens i) (rowAt rows lens j) ≤ floor
   meets-short floor l =
       elim (decLt floor (overlap (rowAt rows lens i) (rowAt rows lens j))) [
@@ -163,17 +166,21 @@ module _ (rows : List (List ℕ)) (lens : List ℕ) (i j : ℕ) (gi : RowHolds r
         | no k ↦ omega arith
       ]
 
+  -- no overlap: the second read begins at or below the first read's first number
   pub meets-first : getD (getD rows j []) 0 0 ≤ getD (getD rows i []) 0 0 → 0 ≡ overlap (rowAt rows lens i) (rowAt rows lens j)
   meets-first h =
       overlap-first (rowAt rows lens i) (rowAt rows lens j) (gi .read .climbs) (gj .read .climbs) (gi .read .some) (gj .read .some)
       (omega (arith, first-get rows lens i j gi gj, first-get rows lens j i gj gi))
 
+  -- no overlap: the second read begins above the first read's last number
   pub meets-beyond : getD (getD rows i []) (getD lens i 0 - 1) 0 < getD (getD rows j []) 0 0 → 0 ≡ overlap (rowAt rows lens i) (rowAt rows lens j)
   meets-beyond h =
       overlap-beyond (rowAt rows lens i) (rowAt rows lens j) (gi .read .climbs) (gj .read .climbs) (gi .read .some) (gj .read .some)
       (omega (arith, last-get rows lens i j gi gj, first-get rows lens j i gj gi))
 
-  pub meets-inside : getD (getD rows j []) (getD lens j 0 - 1) 0 ≤ getD (getD rows i []) (getD lens i 0 - 1) 0 → 0 ≡ overlap (rowAt rows lens i) (rowAt rows lens j)
+  -- no overlap: the second read does not reach beyond the first
+  pub meets-inside : getD (getD rows j []) (getD lens j 0 - 1) 0 ≤ getD (getD rows i []) (getD lens i 0 - 1) 0 →
+      0 ≡ overlap (rowAt rows lens i) (rowAt rows lens j)
   meets-inside h =
       overlap-inside (rowAt rows lens i) (rowAt rows lens j) (gi .read .climbs) (gj .read .climbs) (gi .read .some) (gj .read .some)
       (omega (arith, last-get rows lens i j gi gj, last-get rows lens j i gj gi))
@@ -182,18 +189,23 @@ module _ (rows : List (List ℕ)) (lens : List ℕ) (i j : ℕ) (gi : RowHolds r
     place-row : Place (rowAt rows lens i) (getD (rowAt rows lens j) 0 0) p
     place-row = rw (first-get rows lens j i gj gi) g
 
+    -- no overlap: the second read would end inside the first
     pub meets-long : getD lens j 0 + p ≤ getD lens i 0 → 0 ≡ overlap (rowAt rows lens i) (rowAt rows lens j)
     meets-long h =
         overlap-long (rowAt rows lens i) (rowAt rows lens j) (gi .read .climbs) (gj .read .climbs) (gi .read .some) (gj .read .some) p place-row
         (omega (arith, gi .long, gj .long))
 
+    -- no overlap: the runs differ
     pub meets-none : false ≡ runs rows lens i p j 0 → 0 ≡ overlap (rowAt rows lens i) (rowAt rows lens j)
     unfolding runs
     meets-none e =
         overlap-none (rowAt rows lens i) (rowAt rows lens j) (gi .read .climbs) (gj .read .climbs) (gi .read .some) (gj .read .some) p place-row
         (sym e)
 
-    pub meets-found : getD (getD rows i []) 0 0 < getD (getD rows j []) 0 0 → getD (getD rows j []) 0 0 ≤ getD (getD rows i []) (getD lens i 0 - 1) 0 → getD lens i 0 < getD lens j 0 + p → true ≡ runs rows lens i p j 0 → getD lens i 0 - p ≡ overlap (rowAt rows lens i) (rowAt rows lens j)
+    -- the overlap is what the first read has from that place on
+    pub meets-found : getD (getD rows i []) 0 0 < getD (getD rows j []) 0 0 →
+        getD (getD rows j []) 0 0 ≤ getD (getD rows i []) (getD lens i 0 - 1) 0 → getD lens i 0 < getD lens j 0 + p →
+        true ≡ runs rows lens i p j 0 → getD lens i 0 - p ≡ overlap (rowAt rows lens i) (rowAt rows lens j)
     unfolding runs
     meets-found f l h e =
         subst (λ (n : ℕ). n - p ≡ overlap (rowAt rows lens i) (rowAt rows lens j)) (gi .long)

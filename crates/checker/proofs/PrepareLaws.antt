@@ -1,23 +1,22 @@
 -- The "While" of joining, turn by turn: as many turns as there are reads are enough, one turn joins one pair, and the end is where no two reads overlap.
-use Prim.Native.Nat.{ℕ, zero, suc, _+_, _≤_, _<_, max, min}
+use Prim.Native.Nat.{ℕ, zero, suc, _+_, _≤_}
 use native.Mathlib.Omega.{arith}
 use native.Mathlib.Numerals.{add-one}
 use native.Mathlib.Nat.{eq-or-lt-of-le}
 use borrow.Author.Tests.{eq-eqb, ne-eqb}
-use mathlib.Core.Path.{_≡_, refl, sym, ap, subst, _∙_}
-use mathlib.Core.List.{List, [], _∷_, _++_}
-use mathlib.Core.Bool.{Bool, true, false, cond}
-use mathlib.Core.Logic.{_⊎_, inl, inr}
+use mathlib.Core.Path.{_≡_, refl, sym, ap, _∙_}
+use mathlib.Core.List.{List, [], _∷_}
+use mathlib.Core.Bool.{Bool, cond}
+use mathlib.Core.Logic.{inl, inr}
 use native.Mathlib.Decide.{ℕ-discrete}
-use lib.Dec.{eqb}
-use lib.ListN.{length, getD, drop, set, length-set}
-use Rattle.mathematics.specs.Prepare.{dropParts, Meeting, longest, without, joinAt, joinWhile, prepare}
+use lib.ListN.{length}
+use Rattle.mathematics.specs.Prepare.{dropParts, Meeting, longest, joinAt, joinWhile, prepare}
 use Rattle.mathematics.proofs.Dropped.{dropped-fewer}
 use Rattle.mathematics.proofs.Joined.{join, join-fewer}
 use Rattle.checker.specs.ReadTable.{rowsOf, TableHolds, Leaves}
 use Rattle.checker.proofs.TableRows.{table-length}
 
-pub while-stop : (turns : ℕ) (rs : List (List ℕ)) → longest rs .length ≡ 0 → joinWhile turns rs ≡ rs
+while-stop : (turns : ℕ) (rs : List (List ℕ)) → longest rs .length ≡ 0 → joinWhile turns rs ≡ rs
 while-stop zero rs e = refl
 while-stop (suc turns) rs e =
     ap (λ (b : Bool). cond b rs (joinWhile turns (joinAt (longest rs) rs))) (eq-eqb (longest rs .length) 0 e)
@@ -60,7 +59,8 @@ prepare-few (a ∷ []) l = while-stop 1 (a ∷ []) (longest-few (a ∷ []) l)
 prepare-few (a ∷ b ∷ rs) l = absurd (omega arith)
 
 -- after dropping, what is left to do is the joining
-pub prepare-start : (rs : List (List ℕ)) (rows : List (List ℕ)) (lens : List ℕ) (n : ℕ) → Leaves rows lens n (dropParts [] rs) → prepare rs ≡ joinWhile n (rowsOf rows lens n)
+pub prepare-start : (rs : List (List ℕ)) (rows : List (List ℕ)) (lens : List ℕ) (n : ℕ) → Leaves rows lens n (dropParts [] rs) →
+    prepare rs ≡ joinWhile n (rowsOf rows lens n)
 unfolding prepare
 prepare-start rs rows lens n h =
     let size : length (dropParts [] rs) ≡ n = ap length (sym (h .reads)) ∙ table-length rows lens n (h .table) in
@@ -68,14 +68,18 @@ prepare-start rs rows lens n h =
     ∙ ap (joinWhile n) (sym (h .reads))
 
 module _ (total : List (List ℕ)) (rows : List (List ℕ)) (lens : List ℕ) (n : ℕ) (t : TableHolds rows lens n) (e : total ≡ joinWhile n (rowsOf rows lens n)) where
-  pub prepare-turn : (m : Meeting) (rows′ : List (List ℕ)) (lens′ : List ℕ) (n′ : ℕ) → m ≡ longest (rowsOf rows lens n) → (m .length ≡ 0 → ⊥) → Leaves rows′ lens′ n′ (joinAt m (rowsOf rows lens n)) → n′ + 1 ≡ n → total ≡ joinWhile n′ (rowsOf rows′ lens′ n′)
+  -- a turn that joins leaves the rest of the turns
+  pub prepare-turn : (m : Meeting) (rows′ : List (List ℕ)) (lens′ : List ℕ) (n′ : ℕ) → m ≡ longest (rowsOf rows lens n) → (m .length ≡ 0 → ⊥) →
+      Leaves rows′ lens′ n′ (joinAt m (rowsOf rows lens n)) → n′ + 1 ≡ n → total ≡ joinWhile n′ (rowsOf rows′ lens′ n′)
   prepare-turn m rows′ lens′ n′ f d h s =
       e ∙ (ap (λ (k : ℕ). joinWhile k (rowsOf rows lens n)) (sym s ∙ add-one n′)
       ∙ (while-turn n′ (rowsOf rows lens n) (λ z. d (ap {B = ℕ} (λ (q : Meeting). q .length) f ∙ z))
       ∙ ap (joinWhile n′) (ap (λ (q : Meeting). joinAt q (rowsOf rows lens n)) (sym f) ∙ sym (h .reads))))
 
+  -- no two reads overlap: the table holds the prepared reads
   pub prepare-stop : (m : Meeting) → m ≡ longest (rowsOf rows lens n) → m .length ≡ 0 → rowsOf rows lens n ≡ total
   prepare-stop m f z = sym (e ∙ while-stop n (rowsOf rows lens n) (ap {B = ℕ} (λ (q : Meeting). q .length) (sym f) ∙ z))
 
+  -- one read or none is left: the table holds the prepared reads
   pub prepare-end : n ≤ 1 → rowsOf rows lens n ≡ total
   prepare-end l = sym (e ∙ while-stop n (rowsOf rows lens n) (longest-few (rowsOf rows lens n) (omega (arith, table-length rows lens n t))))

@@ -1,5 +1,5 @@
 -- Which arc goes from one vertex to another: its number in the form, and the table by which the code finds it without a look at all arcs.
-use Prim.Native.Nat.{ℕ, zero, suc, _+_, _≤_}
+use Prim.Native.Nat.{ℕ, suc, _+_, _≤_}
 use mathlib.Core.Path.{_≡_}
 use mathlib.Core.List.{List, [], _∷_}
 use mathlib.Core.Bool.{Bool, cond, _&&_}
@@ -10,8 +10,9 @@ use Rattle.mathematics.specs.Graph.{Arc, joins, hasArc}
 use Rattle.mathematics.specs.Cover.{oneIf}
 use Rattle.checker.specs.declared.Found.{Found}
 use Rattle.checker.specs.declared.Found.the-variants.{At, Missing}
+use Rattle.checker.specs.declared.Graph.{Graph}
 use Rattle.checker.specs.Limits.{maxVertices}
-use Rattle.checker.specs.GraphForm.{vertexCount, arcCount}
+use Rattle.checker.specs.GraphForm.{vertexCount, arcCount, readCount, openingPrice}
 use Rattle.checker.specs.GraphOf.{arcsOf}
 use Rattle.checker.specs.GraphReads.{ArcsRight}
 
@@ -43,3 +44,11 @@ pub record AsCounted (s : List ℕ) (n count : ℕ) : Type 0 where
 pub record ArcTable (s first : List ℕ) : Type 0 where
   pub arcs : ArcsRight s
   pub at : (u : ℕ) → u ≤ maxVertices → getD first u 0 ≡ tailsBelow (arcsOf s) u
+
+-- a graph value holds the header and the table of a form
+pub record Opened (s : List ℕ) (g : Graph) : Type 0 where
+  pub vertices : g .header .vertices ≡ vertexCount s
+  pub arcs : g .header .arcs ≡ arcCount s
+  pub reads : g .header .reads ≡ readCount s
+  pub opening : g .header .opening ≡ openingPrice s
+  pub table : ArcTable s (g .first)

@@ -1,7 +1,6 @@
 -- Document 01, "The two forms, version 1": where each field of a graph form stands. One accessor for each field.
 use Prim.Native.Nat.{ℕ, _+_, _*_}
 use mathlib.Core.List.{List}
-use lib.ListN.{length}
 use Rattle.checker.specs.Bytes.{byte, be16, be32, part}
 
 -- "Graph: length (4 bytes), version (1), n (1), number of arcs (2), number of reads (1), opening price (4): 13 bytes."

@@ -5,9 +5,10 @@ pub mod GraphFaults
 pub mod GraphOf
 pub mod GraphReads
 pub mod ArcTable
+pub mod Empty
 pub mod AnswerForm
 pub mod AnswerFaults
 pub mod Check
+pub mod Tallies
 pub mod Encode
-pub mod Empty
 pub mod ReadTable

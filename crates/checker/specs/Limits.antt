@@ -45,9 +45,6 @@ markLimit = 2_000_000_000
 abbrev pub maxPathLength : ℕ
 maxPathLength = 64
 
-abbrev pub maxMark : ℕ
-maxMark = 2_000_000_000
-
 -- "Answer: .. The longest is 32,543 bytes."
 abbrev pub longestAnswer : ℕ
 longestAnswer = 32543

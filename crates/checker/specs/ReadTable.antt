@@ -1,12 +1,13 @@
 -- Document 01, "The reads of the form fill a table of reads, a row each, lengths beside it": what the table stands for, and what holds of one.
-use Prim.Native.Nat.{ℕ, zero, suc, _+_, _≤_, _<_}
+use Prim.Native.Nat.{ℕ, _+_, _≤_, _<_}
 use mathlib.Core.Path.{_≡_}
 use mathlib.Core.List.{List, [], _∷_, _++_}
-use mathlib.Core.Bool.{Bool, true, false, cond, _&&_, _||_}
+use mathlib.Core.Bool.{Bool, false, cond, _&&_, _||_}
 use lib.Dec.{ltb, eqb}
 use lib.ListN.{length, getD, take, drop}
 use Rattle.mathematics.specs.Lists.{All, begins, holds, someHolds}
-use Rattle.mathematics.specs.Prepare.{someLonger, overlap, Meeting, longer, longestWith, longestFrom}
+use Rattle.mathematics.specs.Prepare.{someLonger, overlap, Meeting, longer, longestWith}
+use Rattle.checker.specs.Limits.{maxVertices, maxReads}
 use Rattle.checker.specs.declared.reads.Meeting.{Meeting as Found}
 
 -- the read in row i
@@ -35,23 +36,23 @@ Climbs r = (k : ℕ) → k + 1 < length r → getD r k 0 < getD r (k + 1) 0
 pub record ReadHolds (r : List ℕ) : Type 0 where
   pub some : 1 ≤ length r
   pub climbs : Climbs r
-  pub below : All (λ v. v < 64) r
+  pub below : All (λ v. v < maxVertices) r
 
 -- row i holds a read
 pub record RowHolds (rows : List (List ℕ)) (lens : List ℕ) (i : ℕ) : Type 0 where
-  pub inside : i < 16
-  pub fit : getD lens i 0 ≤ 64
-  pub wide : length (getD rows i []) ≡ 64
+  pub inside : i < maxReads
+  pub fit : getD lens i 0 ≤ maxVertices
+  pub wide : length (getD rows i []) ≡ maxVertices
   pub long : length (rowAt rows lens i) ≡ getD lens i 0
   pub read : ReadHolds (rowAt rows lens i)
 
 -- the table has 16 rows of 64 and 16 lengths, and count of its rows hold reads
 pub record TableHolds (rows : List (List ℕ)) (lens : List ℕ) (count : ℕ) : Type 0 where
-  pub counted : count ≤ 16
-  pub tall : length rows ≡ 16
-  pub wide : All (λ r. length r ≡ 64) rows
-  pub sized : length lens ≡ 16
-  pub fit : (i : ℕ) → i < count → getD lens i 0 ≤ 64
+  pub counted : count ≤ maxReads
+  pub tall : length rows ≡ maxReads
+  pub wide : All (λ r. length r ≡ maxVertices) rows
+  pub sized : length lens ≡ maxReads
+  pub fit : (i : ℕ) → i < count → getD lens i 0 ≤ maxVertices
   pub reads : All ReadHolds (rowsOf rows lens count)
 
 -- the table holds the reads rs, in its first count rows
@@ -91,10 +92,6 @@ nextAt rows lens i j best =
 -- the longest with the read in row i, among the count reads from the j-th on, and best
 unfoldable pub withFrom : List (List ℕ) → List ℕ → ℕ → ℕ → ℕ → Meeting → Meeting
 withFrom rows lens count i j best = longestWith i (rowAt rows lens i) j (drop j (rowsOf rows lens count)) best
-
--- the longest with a read from row i on, and best
-unfoldable pub allFrom : List (List ℕ) → List ℕ → ℕ → ℕ → Meeting → Meeting
-allFrom rows lens count i best = longestFrom i (rowsOf rows lens count) (drop i (rowsOf rows lens count)) best
 
 -- the read in row i, and behind it the read in row j without its first n numbers
 unfoldable pub joinOf : List (List ℕ) → List ℕ → ℕ → ℕ → ℕ → List ℕ

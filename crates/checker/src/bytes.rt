@@ -11,12 +11,14 @@ pub fn wide(b: u8) -> usize
     b as usize
 }
 
+// An entry of the table of first arcs as a number to reckon with.
 pub fn wide16(b: u16) -> usize
     ensures { λ r. ⌜ (r ≡ b) × (r < 65536) ⌝ }
 {
     b as usize
 }
 
+// The number in 2 bytes at an offset.
 pub fn be16(s: &[u8], at: usize) -> usize
     requires { ⌜ at + 1 < length (now s) ⌝ }
     ensures { λ r. ⌜ r ≡ number16 (now (s .entry)) at ⌝ }
@@ -25,6 +27,7 @@ pub fn be16(s: &[u8], at: usize) -> usize
     wide(s[at]) * 256 + wide(s[at + 1])
 }
 
+// The number in 4 bytes at an offset.
 pub fn be32(s: &[u8], at: usize) -> usize
     requires { ⌜ at + 3 < length (now s) ⌝ }
     ensures { λ r. ⌜ r ≡ number32 (now (s .entry)) at ⌝ }

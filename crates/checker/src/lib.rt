@@ -1,11 +1,13 @@
 // Reading and checking: the layer that takes every byte string, checks it itself and comes to an end.
 // The definitions that the contracts cite are in specs/, in document 01's words and order.
+pub mod answers;
 pub mod bytes;
 pub mod reader;
+pub mod reads;
 
 ghost use mathlib.Core.Path.{_≡_};
 ghost use Rattle.checker.specs.GraphFaults.{refusal};
-ghost use Rattle.checker.specs.Limits.{maxVertices, maxArcs, maxReads, maxOpening, maxCost, maxDemand, minReadLength, maxReadLength, longestGraph, maxPaths, maxWeight, maxMark, longestAnswer};
+ghost use Rattle.checker.specs.Limits.{maxVertices, maxArcs, maxReads, maxOpening, maxCost, maxDemand, minReadLength, maxReadLength, longestGraph, maxPaths, maxWeight, markLimit, longestAnswer};
 ghost use Rattle.checker.specs.Empty.{emptyHeader, emptyGraph, emptyAnswer};
 
 // What a call answers where an input may be turned down: the refusal's number and its place; both are 0 where nothing is refused.
@@ -73,7 +75,7 @@ impl Graph {
     pub const MIN_READ: usize = 2;
 
     pub const MAX_READ: usize = 16;
-    // Document 01, "The two forms": how long the header, a vertex's record, an arc's record and the longest form are, and where the counts stand.
+    // Document 01, "The two forms": how long the header, a vertex's record, an arc's record and the longest form are, and where the header's values stand.
     pub const HEADER: usize = 13;
 
     pub const VERTEX: usize = 5;
@@ -82,11 +84,15 @@ impl Graph {
 
     pub const LONGEST: usize = 3165;
 
+    pub const AT_VERSION: usize = 4;
+
     pub const AT_VERTICES: usize = 5;
 
     pub const AT_ARCS: usize = 6;
 
     pub const AT_READS: usize = 8;
+
+    pub const AT_OPENING: usize = 9;
 
     // The graph with nothing in it. The limits are the definitions' own.
     pub fn empty() -> Graph
@@ -120,10 +126,8 @@ impl Answer {
     // The answer with nothing in it. The limits are the definitions' own.
     pub fn empty() -> Answer
         ensures { λ r. ⌜ r ≡ emptyAnswer ⌝ }
-        ensures limits { λ r. do ⌜ ((← ⟦Answer::MAX_PATHS⟧ .entry) ≡ maxPaths) × ((← ⟦Answer::MAX_WEIGHT⟧ .entry) ≡ maxWeight) × ((← ⟦Answer::MARK_LIMIT⟧ .entry) ≡ maxMark) × ((← ⟦Answer::LONGEST⟧ .entry) ≡ longestAnswer) ⌝ }
+        ensures limits { λ r. do ⌜ ((← ⟦Answer::MAX_PATHS⟧ .entry) ≡ maxPaths) × ((← ⟦Answer::MAX_WEIGHT⟧ .entry) ≡ maxWeight) × ((← ⟦Answer::MARK_LIMIT⟧ .entry) ≡ markLimit) × ((← ⟦Answer::LONGEST⟧ .entry) ≡ longestAnswer) ⌝ }
     {
         Answer { paths: 0, price: 0 }
     }
 }
-
-mod reads;

@@ -1,6 +1,7 @@
-// The graph reader.
+// The graph reader: every byte string is read to its first fault, in document 01's order, and no byte outside it.
 use crate::Found;
 use crate::Graph;
+use crate::Header;
 use crate::Verdict;
 use crate::bytes::be16;
 use crate::bytes::be32;
@@ -13,7 +14,7 @@ ghost use Rattle.checker.specs.GraphFaults.{headerVerdict, vertexFault, 
 ghost use Rattle.checker.specs.GraphForm.{vertexAt, vertexCount, arcAt, readCount, firstReadAt};
 ghost use Rattle.checker.specs.GraphOf.{arcsOf};
 ghost use Rattle.checker.specs.GraphReads.{HeaderRight, ArcsRight};
-ghost use Rattle.checker.specs.ArcTable.{AsCounted, ArcTable, tailsBelow, arcNumber, goesOn};
+ghost use Rattle.checker.specs.ArcTable.{AsCounted, ArcTable, Opened, tailsBelow, arcNumber, goesOn};
 ghost use Rattle.checker.specs.Bytes.{part};
 ghost use Rattle.checker.specs.Limits.{maxVertices, maxArcs, longestGraph};
 
@@ -27,24 +28,24 @@ fn header_verdict(s: &[u8]) -> Verdict
     if be32(s, 0) != s.len() {
         return Verdict::new(1, 0);
     }
-    if wide(s[4]) != 1 {
-        return Verdict::new(2, 4);
+    if wide(s[Graph::AT_VERSION]) != 1 {
+        return Verdict::new(2, Graph::AT_VERSION);
     }
     let n = wide(s[Graph::AT_VERTICES]);
     if n == 0 {
-        return Verdict::new(3, 5);
+        return Verdict::new(3, Graph::AT_VERTICES);
     }
     if Graph::MAX_VERTICES < n {
-        return Verdict::new(3, 5);
+        return Verdict::new(3, Graph::AT_VERTICES);
     }
     if Graph::MAX_ARCS < be16(s, Graph::AT_ARCS) {
-        return Verdict::new(3, 6);
+        return Verdict::new(3, Graph::AT_ARCS);
     }
     if Graph::MAX_READS < wide(s[Graph::AT_READS]) {
-        return Verdict::new(3, 8);
+        return Verdict::new(3, Graph::AT_READS);
     }
-    if Graph::MAX_OPENING < be32(s, 9) {
-        return Verdict::new(4, 9);
+    if Graph::MAX_OPENING < be32(s, Graph::AT_OPENING) {
+        return Verdict::new(4, Graph::AT_OPENING);
     }
     Verdict::new(0, 0)
 }
@@ -130,7 +131,7 @@ fn arcs_verdict(s: &[u8], n: usize, count: usize) -> Verdict
     Verdict::new(0, 0)
 }
 
-// From arc a on, the number of arcs whose tail is below u, where no arc before a has a higher one.
+// How many arcs have a tail below u, counted on from an arc before which all have one: arcs ascend by tail, so the first that has none ends the count.
 fn arcs_below(s: &[u8], n: usize, count: usize, u: usize, from: usize) -> usize
     requires { ⌜ AsCounted (now s) n count × (from ≤ tailsBelow (arcsOf (now s)) u) ⌝ }
     ensures { λ r. ⌜ r ≡ tailsBelow (arcsOf (now (s .entry))) u ⌝ }
@@ -307,4 +308,23 @@ pub fn read_graph(s: &[u8]) -> Verdict
         return vertices;
     }
     arcs_then_reads(s, n)
+}
+
+// The header and the table of a form that reads, for whoever works on the graph.
+pub fn open_graph(s: &[u8]) -> Graph
+    requires { ⌜ ArcsRight (now s) ⌝ }
+    ensures { λ r. ⌜ Opened (now (s .entry)) r ⌝ }
+{
+    let vertices = wide(s[Graph::AT_VERTICES]);
+    let arcs = be16(s, Graph::AT_ARCS);
+    let reads = wide(s[Graph::AT_READS]);
+    let opening = be32(s, Graph::AT_OPENING);
+    let first = first_arcs(s);
+    let header = Header {
+        vertices,
+        arcs,
+        reads,
+        opening,
+    };
+    Graph { header, first }
 }

@@ -1,8 +1,7 @@
 // Preparing the reads: a table of reads, a row each, lengths beside it. What a part of another is dropped; then the longest overlap is joined, while there is one.
 ghost use mathlib.Core.Path.{_≡_};
-ghost use mathlib.Core.List.{List, []};
-ghost use mathlib.Core.Bool.{Bool, true, false, cond};
-ghost use Prim.Native.Nat.{ℕ, suc, _+_, _-_, _<_, _≤_};
+ghost use mathlib.Core.List.{[]};
+ghost use Prim.Native.Nat.{_+_, _-_, _<_, _≤_};
 ghost use lib.ListN.{length, getD, take, set};
 ghost use Rattle.mathematics.specs.Lists.{holds};
 ghost use Rattle.mathematics.specs.Prepare.{dropParts, overlap as overlapOf, longest as longestOf, without, joinAt, prepare};

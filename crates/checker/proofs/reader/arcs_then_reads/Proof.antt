@@ -1,5 +1,4 @@
 -- `checker::reader::arcs_then_reads` meets its contract: where no arc is refused the arcs are right, and the table is made for the reads.
-use native.Mathlib.Omega.{arith}
 use mathlib.Core.Path.{sym, ap, _∙_}
 use Rattle.checker.specs.declared.Verdict.{Verdict}
 use Rattle.checker.proofs.RightLaws.{arcs-hold}

@@ -1,6 +1,6 @@
 -- `checker::reader::reads_verdict` meets its contract: the answer of all reads is that of those not yet passed.
 use borrow.Author.Needs.{needs}
-use Prim.Native.Nat.{_≤_, _-_}
+use Prim.Native.Nat.{_-_}
 use native.Mathlib.Omega.{arith}
 use mathlib.Core.Path.{_≡_, sym, _∙_}
 use Rattle.checker.specs.GraphFaults.{readsVerdict}

@@ -1,10 +1,9 @@
+-- `checker::reads::close_gap` meets its contract: the rows up to k are those without the gap, and the rows from k on are as they were.
 use Prim.Native.Nat.{_-_}
 use Rattle.checker.proofs.JoinLaws.{Gap, gap-start, gap-turn, gap-end, gap-table}
 use borrow.Author.Needs.{needs}
 use Rattle.checker.proofs.reads.close_gap.Statement.{statement}
 use Rattle.checker.proofs.reads.close_gap.Tie as tie
-use Rattle.checker.proofs.reads.close_gap.Reads as reads
-use Rattle.checker.proofs.reads.close_gap.Lts as lts
 
 abbrev Inv-loop : tie.InvT-loop
 Inv-loop rows₀ lens₀ count gap k₀ rows lens k = Gap rows₀ lens₀ count gap rows lens k
@@ -55,7 +54,13 @@ sub-result : tie.Need-sub-result Inv-loop μ-loop
 sub-result c = search needs
 
 returns : tie.Need-returns Inv-loop μ-loop
-returns c = (record { table = gap-table _ _ _ _ _ _ _ (search needs) (c .before .loop .inv) (search needs); reads = gap-end _ _ _ _ _ _ _ (search needs) (c .before .loop .inv) (search needs) }, search needs)
+returns c = (
+  record {
+    table = gap-table _ _ _ _ _ _ _ (search needs) (c .before .loop .inv) (search needs);
+    reads = gap-end _ _ _ _ _ _ _ (search needs) (c .before .loop .inv) (search needs);
+  },
+  search needs,
+)
 
 pub close-gap-spec : {M : Type 1} → statement M
 close-gap-spec =

@@ -1,14 +1,11 @@
-use Prim.Native.Nat.{_≤_, _-_, _+_}
-use native.Mathlib.Omega.{arith}
+-- `checker::reads::in_earlier` meets its contract: the answer over all lower rows is the answer over those not yet looked at.
+use Prim.Native.Nat.{_≤_, _-_}
 use mathlib.Core.Path.{_≡_, refl, _∙_, sym}
 use Rattle.checker.specs.ReadTable.{heldFrom}
 use Rattle.checker.proofs.TableRows.{table-row, earlier-here, earlier-end, or-found, or-rest}
 use borrow.Author.Needs.{needs}
 use Rattle.checker.proofs.reads.in_earlier.Statement.{statement}
 use Rattle.checker.proofs.reads.in_earlier.Tie as tie
-use Rattle.checker.proofs.reads.in_earlier.Reads as reads
-use Rattle.checker.proofs.reads.in_earlier.Lts as lts
-use Rattle.checker.proofs.reads.is_part.Reads as is-part-reads
 
 abbrev Inv-loop : tie.InvT-loop
 Inv-loop rows lens i j₀ j = (j ≤ i) × (heldFrom rows lens i 0 ≡ heldFrom rows lens i j)

@@ -1,14 +1,11 @@
+-- `checker::reads::in_later` meets its contract: the answer over all higher rows is the answer over those not yet looked at.
 use Prim.Native.Nat.{_≤_, _-_, _+_}
-use native.Mathlib.Omega.{arith}
 use mathlib.Core.Path.{_≡_, refl, _∙_, sym}
 use Rattle.checker.specs.ReadTable.{longerFrom}
 use Rattle.checker.proofs.TableRows.{table-row, later-here, later-end, or-found, or-rest}
 use borrow.Author.Needs.{needs}
 use Rattle.checker.proofs.reads.in_later.Statement.{statement}
 use Rattle.checker.proofs.reads.in_later.Tie as tie
-use Rattle.checker.proofs.reads.in_later.Reads as reads
-use Rattle.checker.proofs.reads.in_later.Lts as lts
-use Rattle.checker.proofs.reads.is_longer.Reads as is-longer-reads
 
 abbrev Inv-loop : tie.InvT-loop
 Inv-loop rows lens count i j₀ j = (j ≤ count) × (longerFrom rows lens count i (i + 1) ≡ longerFrom rows lens count i j)

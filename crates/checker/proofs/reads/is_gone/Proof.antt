@@ -1,12 +1,9 @@
+-- `checker::reads::is_gone` meets its contract: a read is dropped for a lower row, or for a longer read in a higher one.
 use mathlib.Core.Path.{_∙_, sym}
 use Rattle.checker.proofs.TableRows.{table-fewer, gone-earlier, gone-later}
 use borrow.Author.Needs.{needs}
 use Rattle.checker.proofs.reads.is_gone.Statement.{statement}
 use Rattle.checker.proofs.reads.is_gone.Tie as tie
-use Rattle.checker.proofs.reads.is_gone.Reads as reads
-use Rattle.checker.proofs.reads.is_gone.Lts as lts
-use Rattle.checker.proofs.reads.in_earlier.Reads as in-earlier-reads
-use Rattle.checker.proofs.reads.in_later.Reads as in-later-reads
 
 in-earlier-requires : tie.Need-in-earlier-requires
 in-earlier-requires c κs = table-fewer _ _ _ _ (c .pre .0) (search needs)

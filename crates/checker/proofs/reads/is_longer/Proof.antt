@@ -1,11 +1,9 @@
+-- `checker::reads::is_longer` meets its contract: a read that is not shorter is no part of a read that is to be longer.
 use mathlib.Core.Path.{_∙_}
 use Rattle.checker.proofs.TableRows.{longer-not, longer-part}
 use borrow.Author.Needs.{needs}
 use Rattle.checker.proofs.reads.is_longer.Statement.{statement}
 use Rattle.checker.proofs.reads.is_longer.Tie as tie
-use Rattle.checker.proofs.reads.is_longer.Reads as reads
-use Rattle.checker.proofs.reads.is_longer.Lts as lts
-use Rattle.checker.proofs.reads.is_part.Reads as is-part-reads
 
 mul-if1 : tie.Need-mul-if1
 mul-if1 c = search needs

@@ -1,13 +1,9 @@
+-- `checker::reads::is_part` meets its contract: a read that rises has one place for a part, where the part's first number stands.
 use mathlib.Core.Path.{_∙_}
 use Rattle.checker.proofs.TableLaws.{part-short, part-last, part-late, part-run}
 use borrow.Author.Needs.{needs}
-use borrow.Author.Needs.{needs}
 use Rattle.checker.proofs.reads.is_part.Statement.{statement}
 use Rattle.checker.proofs.reads.is_part.Tie as tie
-use Rattle.checker.proofs.reads.is_part.Reads as reads
-use Rattle.checker.proofs.reads.is_part.Lts as lts
-use Rattle.checker.proofs.reads.place.Reads as place-reads
-use Rattle.checker.proofs.reads.same_run.Reads as same-run-reads
 
 mul-n : tie.Need-mul-n
 mul-n c = search needs

@@ -1,11 +1,10 @@
+-- `checker::reads::joined` meets its contract: what is written, and what of the second read is still to come, are the joined read.
 use Prim.Native.Nat.{_-_}
 use native.Mathlib.Omega.{arith}
 use Rattle.checker.proofs.JoinLaws.{Built, built-start, built-turn, built-end}
 use borrow.Author.Needs.{needs}
 use Rattle.checker.proofs.reads.joined.Statement.{statement}
 use Rattle.checker.proofs.reads.joined.Tie as tie
-use Rattle.checker.proofs.reads.joined.Reads as reads
-use Rattle.checker.proofs.reads.joined.Lts as lts
 
 abbrev Inv-loop : tie.InvT-loop
 Inv-loop rows lens i j n m row₀ at₀ k₀ row at k = Built rows lens i j n row at k

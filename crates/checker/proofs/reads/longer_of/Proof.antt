@@ -1,12 +1,10 @@
+-- `checker::reads::longer_of` meets its contract: an overlap that cannot beat the best is not worked out.
 use native.Mathlib.Omega.{arith}
 use Rattle.checker.proofs.OverlapLaws.{meets-short, meets-under}
 use Rattle.checker.proofs.LongestLaws.{next-same, next-longer, next-kept}
 use borrow.Author.Needs.{needs}
 use Rattle.checker.proofs.reads.longer_of.Statement.{statement}
 use Rattle.checker.proofs.reads.longer_of.Tie as tie
-use Rattle.checker.proofs.reads.longer_of.Reads as reads
-use Rattle.checker.proofs.reads.longer_of.Lts as lts
-use Rattle.checker.proofs.reads.overlap.Reads as overlap-reads
 
 returns : tie.Need-returns
 returns c = next-same _ _ _ _ _ (search needs)

@@ -1,14 +1,12 @@
+-- `checker::reads::longest` meets its contract: the longest of all is the longest of the best so far and the rows not yet looked at.
 use Prim.Native.Nat.{_≤_, _-_}
 use mathlib.Core.Path.{_≡_, sym, _∙_}
 use Rattle.mathematics.specs.Prepare.{longest}
-use Rattle.checker.specs.ReadTable.{rowsOf, meeting, allFrom}
-use Rattle.checker.proofs.LongestLaws.{all-start, all-turn, all-end}
+use Rattle.checker.specs.ReadTable.{rowsOf, meeting}
+use Rattle.checker.proofs.LongestLaws.{allFrom, all-start, all-turn, all-end}
 use borrow.Author.Needs.{needs}
 use Rattle.checker.proofs.reads.longest.Statement.{statement}
 use Rattle.checker.proofs.reads.longest.Tie as tie
-use Rattle.checker.proofs.reads.longest.Reads as reads
-use Rattle.checker.proofs.reads.longest.Lts as lts
-use Rattle.checker.proofs.reads.longest_with.Reads as longest-with-reads
 
 abbrev Inv-loop : tie.InvT-loop
 Inv-loop rows lens count found₀ i₀ found i = (i ≤ count) × (longest (rowsOf rows lens count) ≡ allFrom rows lens count i (meeting found))

@@ -1,3 +1,4 @@
+-- `checker::reads::longest_with` meets its contract: the longest of all is the longest of the best so far and the rows not yet looked at.
 use Prim.Native.Nat.{_≤_, _-_}
 use mathlib.Core.Path.{_≡_, refl, sym, _∙_}
 use Rattle.checker.specs.ReadTable.{meeting, withFrom}
@@ -6,9 +7,6 @@ use Rattle.checker.proofs.LongestLaws.{with-turn, with-end}
 use borrow.Author.Needs.{needs}
 use Rattle.checker.proofs.reads.longest_with.Statement.{statement}
 use Rattle.checker.proofs.reads.longest_with.Tie as tie
-use Rattle.checker.proofs.reads.longest_with.Reads as reads
-use Rattle.checker.proofs.reads.longest_with.Lts as lts
-use Rattle.checker.proofs.reads.longer_of.Reads as longer-of-reads
 
 abbrev Inv-loop : tie.InvT-loop
 Inv-loop rows lens count i found₀ j₀ found j = (j ≤ count) × (withFrom rows lens count i 0 (meeting found₀) ≡ withFrom rows lens count i j (meeting found))

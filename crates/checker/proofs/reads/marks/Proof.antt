@@ -1,3 +1,4 @@
+-- `checker::reads::marks` meets its contract: each row passed has its mark.
 use Prim.Native.Nat.{ℕ, _≤_, _<_, _-_}
 use native.Mathlib.Omega.{arith}
 use mathlib.Core.Path.{_≡_}
@@ -8,9 +9,6 @@ use Rattle.checker.proofs.TableRows.{fill-turn}
 use borrow.Author.Needs.{needs}
 use Rattle.checker.proofs.reads.marks.Statement.{statement}
 use Rattle.checker.proofs.reads.marks.Tie as tie
-use Rattle.checker.proofs.reads.marks.Reads as reads
-use Rattle.checker.proofs.reads.marks.Lts as lts
-use Rattle.checker.proofs.reads.is_gone.Reads as is-gone-reads
 
 abbrev Inv-loop : tie.InvT-loop
 Inv-loop rows lens count marks₀ i₀ marks i = (i ≤ count) × (length marks ≡ 16) × ((k : ℕ) → k < i → getD marks k false ≡ gone rows lens count k)

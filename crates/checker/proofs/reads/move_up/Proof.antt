@@ -1,11 +1,10 @@
+-- `checker::reads::move_up` meets its contract: the rows kept so far, and what dropping leaves of the rest, are what dropping leaves of all.
 use Prim.Native.Nat.{_-_}
 use mathlib.Core.Path.{_∙_, sym}
 use Rattle.checker.proofs.DropLaws.{Moved, moved-start, moved-skip, moved-keep, moved-end, moved-table}
 use borrow.Author.Needs.{needs}
 use Rattle.checker.proofs.reads.move_up.Statement.{statement}
 use Rattle.checker.proofs.reads.move_up.Tie as tie
-use Rattle.checker.proofs.reads.move_up.Reads as reads
-use Rattle.checker.proofs.reads.move_up.Lts as lts
 
 abbrev Inv-loop : tie.InvT-loop
 Inv-loop rows₀ lens₀ count marks w₀ i₀ rows lens w i = Moved rows₀ lens₀ count rows lens i w
@@ -62,10 +61,16 @@ loop-less-2 : tie.Need-loop-less-2 Inv-loop μ-loop
 loop-less-2 c = search needs
 
 loop-again-2 : tie.Need-loop-again-2 Inv-loop μ-loop
-loop-again-2 c = moved-keep _ _ _ _ _ _ _ (search needs) (c .before .before .before .before .before .loop .inv) (search needs) (sym (c .before .before .if1 .left) ∙ c .before .before .before .before .before .before .pre .1 _ (search needs))
+loop-again-2 c =
+    moved-keep _ _ _ _ _ _ _ (search needs) (c .before .before .before .before .before .loop .inv) (search needs)
+    (sym (c .before .before .if1 .left) ∙ c .before .before .before .before .before .before .pre .1 _ (search needs))
 
 returns : tie.Need-returns Inv-loop μ-loop
-returns c = record { table = moved-table _ _ _ _ _ _ _ (search needs) (c .before .loop .inv) (search needs); reads = moved-end _ _ _ _ _ _ _ (search needs) (c .before .loop .inv) (search needs) }
+returns c =
+    record {
+      table = moved-table _ _ _ _ _ _ _ (search needs) (c .before .loop .inv) (search needs);
+      reads = moved-end _ _ _ _ _ _ _ (search needs) (c .before .loop .inv) (search needs);
+    }
 
 pub move-up-spec : {M : Type 1} → statement M
 move-up-spec =

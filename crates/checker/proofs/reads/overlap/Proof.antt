@@ -1,14 +1,10 @@
+-- `checker::reads::overlap` meets its contract: the second read's first number has one place in the first read, so there is one candidate.
 use native.Mathlib.Omega.{arith}
 use mathlib.Core.Path.{_∙_, sym}
 use Rattle.checker.proofs.OverlapLaws.{meets-first, meets-beyond, meets-inside, meets-long, meets-none, meets-found}
 use borrow.Author.Needs.{needs}
-use borrow.Author.Needs.{needs}
 use Rattle.checker.proofs.reads.overlap.Statement.{statement}
 use Rattle.checker.proofs.reads.overlap.Tie as tie
-use Rattle.checker.proofs.reads.overlap.Reads as reads
-use Rattle.checker.proofs.reads.overlap.Lts as lts
-use Rattle.checker.proofs.reads.place.Reads as place-reads
-use Rattle.checker.proofs.reads.same_run.Reads as same-run-reads
 
 mul-n : tie.Need-mul-n
 mul-n c = search needs
@@ -89,7 +85,9 @@ sub-result : tie.Need-sub-result
 sub-result c = omega (arith, c .before .before .before .place .ensures .within)
 
 returns-5 : tie.Need-returns-5
-returns-5 c = meets-found _ _ _ _ (search needs) (search needs) _ (c .before .before .before .place .ensures) (search needs) (search needs) (omega (arith, c .before .before .before .place .ensures .within)) (sym (c .if5 .taken) ∙ c .before .same-run .ensures)
+returns-5 c =
+    meets-found _ _ _ _ (search needs) (search needs) _ (c .before .before .before .place .ensures)
+    (search needs) (search needs) (omega (arith, c .before .before .before .place .ensures .within)) (sym (c .if5 .taken) ∙ c .before .same-run .ensures)
 
 returns-6 : tie.Need-returns-6
 returns-6 c = meets-none _ _ _ _ (search needs) (search needs) _ (c .before .before .before .place .ensures) (sym (c .if5 .left) ∙ c .before .same-run .ensures)

@@ -1,12 +1,11 @@
+-- `checker::reads::place` meets its contract: the numbers passed are below v, so where the loop stops v stands or would stand.
 use Rattle.checker.proofs.TableLaws.{place-found, place-more, place-end}
 use Prim.Native.Nat.{ℕ, _≤_, _<_, _-_}
 use lib.ListN.{getD}
-use Rattle.checker.specs.ReadTable.{rowAt, RowHolds, Place}
+use Rattle.checker.specs.ReadTable.{rowAt}
 use borrow.Author.Needs.{needs}
 use Rattle.checker.proofs.reads.place.Statement.{statement}
 use Rattle.checker.proofs.reads.place.Tie as tie
-use Rattle.checker.proofs.reads.place.Reads as reads
-use Rattle.checker.proofs.reads.place.Lts as lts
 
 abbrev Inv-loop : tie.InvT-loop
 Inv-loop rows lens j v n p₀ p = (p ≤ n) × ((k : ℕ) → k < p → getD (rowAt rows lens j) k 0 < v)

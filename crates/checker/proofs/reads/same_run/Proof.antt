@@ -1,12 +1,11 @@
+-- `checker::reads::same_run` meets its contract: what is left of the two runs begins one another exactly when the whole runs do.
 use Rattle.checker.proofs.TableLaws.{run-turn, run-stop, run-end}
-use Prim.Native.Nat.{ℕ, _+_, _≤_, _<_, _-_}
+use Prim.Native.Nat.{_+_, _≤_, _-_}
 use mathlib.Core.Path.{_≡_}
 use Rattle.checker.specs.ReadTable.{runs}
 use borrow.Author.Needs.{needs}
 use Rattle.checker.proofs.reads.same_run.Statement.{statement}
 use Rattle.checker.proofs.reads.same_run.Tie as tie
-use Rattle.checker.proofs.reads.same_run.Reads as reads
-use Rattle.checker.proofs.reads.same_run.Lts as lts
 
 abbrev Inv-loop : tie.InvT-loop
 Inv-loop rows lens i p j q n k₀ at₀ k at =
