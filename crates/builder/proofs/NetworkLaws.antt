@@ -27,6 +27,9 @@ below-or-not a b = go (decLt a b)
     go (yes p) = inl p
     go (no n) = inr (omega arith)
 
+pub positive : (n : ℕ) → (n ≡ 0 → ⊥) → 1 ≤ n
+positive n ne = ⊎-elim (λ l. omega arith) (λ g. g) (below-or-not n 1)
+
 -- what stands at j after a store at i
 pub at-set : (xs : List ℕ) (i a j : ℕ) → i < length xs → ((j ≡ i) × (at (set xs i a) j ≡ a)) ⊎ ((j ≢ i) × (at (set xs i a) j ≡ at xs j))
 at-set xs i a j h = go (same-or-not j i)
