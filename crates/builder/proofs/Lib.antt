@@ -2,3 +2,6 @@
 pub mod NetworkLaws
 pub mod NetworkLawsSearch
 pub mod NetworkLawsSettle
+pub mod NetworkLawsRaise
+pub mod NetworkLawsPush
+pub mod NetworkLawsCarry
