@@ -1,0 +1,324 @@
+-- Walking along a path of an answer: which arc is found, what one step adds to the totals, and the laws of the loop that walks.
+use Prim.Native.Nat.{ℕ, zero, suc, _+_, _-_, _*_, _/_, _%_, _<_, _≤_}
+use native.Mathlib.Nat.{le-refl, zero-add, add-zero, sub-zero, mul-one, mul-zero, mul-add, mul-le-mul-left}
+use native.Mathlib.Decide.{decLt, ℕ-discrete}
+use native.Mathlib.Omega.{arith}
+use mathlib.Core.Path.{_≡_, refl, sym, ap, _∙_}
+use mathlib.Core.List.{List, [], _∷_}
+use mathlib.Core.Bool.{Bool, true, false, cond, _&&_}
+use lib.Dec.{eqb}
+use lib.ListN.{length, getD, set, length-set}
+use lib.Seq.{getD-set-same, getD-set-other}
+use lib.IntN.{ℤ, pos, _+ℤ_, +ℤ-assoc, +ℤ-idl, +ℤ-idr}
+use borrow.Author.Tests.{lt-ltb, le-ltb, eq-eqb, ne-eqb, eqb-true}
+use Rattle.mathematics.specs.Price.{whole}
+use Rattle.mathematics.specs.Graph.{Vertex, noVertex, Arc, joins, hasArc, isStart, isEnd, isPath}
+use Rattle.mathematics.specs.Cover.{Item, vert, arc, sameItem, oneIf, countOf, trail, costOf, arcCosts}
+use Rattle.checker.specs.declared.Found.the-variants.{At, Missing}
+use Rattle.checker.specs.Bytes.{byte, be32, part, tabulate}
+use Rattle.checker.specs.Limits.{maxVertices, maxArcs, maxCost, maxWeight}
+use Rattle.checker.specs.GraphForm.{vertexCount, arcCount, flags, arcAt, arcTail, arcHead, arcCost}
+use Rattle.checker.specs.GraphOf.{graphOf, vertexOf, arcOf, arcsOf}
+use Rattle.checker.specs.GraphFaults.{allBelow}
+use Rattle.checker.specs.GraphReads.{ArcsRight, Reads}
+use Rattle.checker.specs.ArcTable.{numberFrom, arcNumber}
+use Rattle.checker.specs.Tallies.{arcItem, onward, goesOnTo, Room, Grown, Walked, PathWalked}
+use Rattle.checker.proofs.AnswerLaws.{part-cons, part-none}
+use Rattle.checker.proofs.AnswerReads.{and-false, part-length}
+use Rattle.checker.proofs.GraphFacts.{ends-differ}
+use Rattle.checker.proofs.Lookup.{found-iff-goes}
+use Rattle.checker.proofs.WalkLaws.{isAt, found-is}
+
+-- entry i of a tabulated list
+getD-tabulate : {A : Type 0} (f : ℕ → A) (count first i : ℕ) (d : A) → i < count → getD (tabulate f count first) i d ≡ f (first + i)
+getD-tabulate f zero first i d h = absurd (omega arith)
+getD-tabulate f (suc count) first zero d h = rw add-zero
+getD-tabulate f (suc count) first (suc i) d h =
+    let same : suc first + i ≡ first + suc i = omega arith in
+    getD-tabulate f count (suc first) i d (omega arith) ∙ ap f same
+
+module _ (s : List ℕ) (v : ℕ) (inside : v < vertexCount s) where
+  pub start-is : isStart (graphOf s) v ≡ eqb (flags s v % 2) 1
+  unfolding graphOf
+  start-is = ap (λ (x : Vertex). x .start) (getD-tabulate (vertexOf s) (vertexCount s) 0 v noVertex inside) ∙ rw zero-add
+
+  pub end-is : isEnd (graphOf s) v ≡ eqb (flags s v / 2) 1
+  unfolding graphOf
+  end-is = ap (λ (x : Vertex). x .end) (getD-tabulate (vertexOf s) (vertexCount s) 0 v noVertex inside) ∙ rw zero-add
+
+-- arc k is the one from u to v
+pub record TheArc (s : List ℕ) (u v k : ℕ) : Type 0 where
+  pub inside : k < arcCount s
+  pub tail : arcTail s (arcAt s k) ≡ u
+  pub head : arcHead s (arcAt s k) ≡ v
+  pub cost : costOf whole (arcsOf s) u v ≡ pos (arcCost s (arcAt s k))
+  pub has : hasArc (arcsOf s) u v ≡ true
+
+module _ (s : List ℕ) (u v : ℕ) where
+  -- the cost of the first arc from u to v, among count arcs from arc i on
+  cost-from : (count i k : ℕ) → numberFrom (tabulate (arcOf s) count i) u v i ≡ At k → costOf whole (tabulate (arcOf s) count i) u v ≡ pos (arcCost s (arcAt s k))
+  unfolding numberFrom
+  cost-from zero i k e = absurd (let z : _≡_ {A = ℕ} 0 1 = cc in omega arith)
+  cost-from (suc count) i k e = by (joins (arcOf s i) u v) (λ f. cost-from count (suc i) k f) e
+    where
+      by : (b : Bool) → (numberFrom (tabulate (arcOf s) count (suc i)) u v (suc i) ≡ At k → costOf whole (tabulate (arcOf s) count (suc i)) u v ≡ pos (arcCost s (arcAt s k))) → cond b (At i) (numberFrom (tabulate (arcOf s) count (suc i)) u v (suc i)) ≡ At k → cond b (pos (arcCost s (arcAt s i))) (costOf whole (tabulate (arcOf s) count (suc i)) u v) ≡ pos (arcCost s (arcAt s k))
+      by true more e =
+          let same : i ≡ k = cc in
+          rw same
+      by false more e = more e
+
+  pub found-arc : ArcsRight s → (k : ℕ) → At k ≡ arcNumber (arcsOf s) u v → TheArc s u v k
+  found-arc right k e =
+      let goes = found-iff-goes s u v right k .0 (sym e) in
+      record {
+        inside = goes .0;
+        tail = goes .1;
+        head = goes .2;
+        cost = cost-from (arcCount s) 0 k (sym e);
+        has = sym (found-is (arcsOf s) u v 0) ∙ ap isAt (sym e);
+      }
+
+module _ (s : List ℕ) (right : ArcsRight s) where
+  arcs-once : (j k : ℕ) → j < arcCount s → k < arcCount s → arcTail s (arcAt s j) ≡ arcTail s (arcAt s k) → arcHead s (arcAt s j) ≡ arcHead s (arcAt s k) → j ≡ k
+  arcs-once j k hj hk t h = go (decLt j k) (decLt k j)
+    where
+      go : Dec (j < k) → Dec (k < j) → j ≡ k
+      go (yes l) e = absurd (ends-differ s right j k l hk t h)
+      go (no l) (yes m) = absurd (ends-differ s right k j m hj (sym t) (sym h))
+      go (no l) (no m) = omega arith
+
+  -- of the arcs only arc k goes from u to v
+  only-arc : (u v k j : ℕ) → TheArc s u v k → j < arcCount s → sameItem (arcItem s j) (arc u v) ≡ eqb j k
+  only-arc u v k j f h = go (ℕ-discrete j k)
+    where
+      go : Dec (j ≡ k) → sameItem (arcItem s j) (arc u v) ≡ eqb j k
+      go (yes e) = rw (e, eq-eqb _ _ (f .tail), eq-eqb _ _ (f .head)) (sym (eq-eqb k k refl))
+      go (no e) = other (eqb (arcTail s (arcAt s j)) u) (eqb (arcHead s (arcAt s j)) v) refl refl ∙ sym (ne-eqb j k e)
+        where
+          other : (x y : Bool) → eqb (arcTail s (arcAt s j)) u ≡ x → eqb (arcHead s (arcAt s j)) v ≡ y → (eqb (arcTail s (arcAt s j)) u && eqb (arcHead s (arcAt s j)) v) ≡ false
+          other true true p q =
+              absurd (e (arcs-once j k h (f .inside) (eqb-true _ _ p ∙ sym (f .tail)) (eqb-true _ _ q ∙ sym (f .head))))
+          other true false p q = rw (p, q)
+          other false y p q = rw p
+
+-- a total that grows by the weight, with c more to come
+grow : (l : List ℕ) (i w x c : ℕ) → i < length l → getD (set l i (getD l i 0 + w)) x 0 + w * c ≡ getD l x 0 + w * (oneIf (eqb x i) + c)
+grow l i w x c h = go (ℕ-discrete x i)
+  where
+    go : Dec (x ≡ i) → getD (set l i (getD l i 0 + w)) x 0 + w * c ≡ getD l x 0 + w * (oneIf (eqb x i) + c)
+    go (yes e) = rw (e, getD-set-same l i (getD l i 0 + w) 0 h, eq-eqb i i refl, mul-add, mul-one) (omega arith)
+    go (no e) = rw (getD-set-other l i x (getD l i 0 + w) 0 e, ne-eqb x i e, zero-add)
+
+-- an item is among the items at most as often as there are items
+count-few : (i : Item) (js : List Item) → countOf i js ≤ length js
+count-few i [] = le-refl 0
+count-few i (j ∷ js) = go (sameItem i j) (count-few i js)
+  where
+    go : (b : Bool) → countOf i js ≤ length js → oneIf b + countOf i js ≤ suc (length js)
+    go true h = omega arith
+    go false h = omega arith
+
+-- the cost of arc k, read where it stands
+pub cost-read : (s : List ℕ) (n k r : ℕ) → Reads s → n ≡ vertexCount s → k < arcCount s → r ≡ be32 s (13 + 5 * n + 10 * k + 2) → (r ≡ arcCost s (arcAt s k)) × (r ≤ maxCost)
+cost-read s n k r reads e inside read =
+    let same : r ≡ arcCost s (arcAt s k) = rw e at read in
+    (same, omega (arith, reads .arcs .each k inside .low-cost))
+
+length-onward : (u : ℕ) (q : List ℕ) → length (onward u q) ≡ 2 * length q
+length-onward u [] = refl
+length-onward u (v ∷ q) = omega (arith, length-onward v q)
+
+-- what goes on from u to v and from there along q
+module _ (s : List ℕ) (u v : ℕ) (q : List ℕ) where
+  goes-outside : vertexCount s ≤ v → goesOnTo s u (v ∷ q) ≡ false
+  unfolding goesOnTo
+  goes-outside h = rw (le-ltb v (vertexCount s) h)
+
+  goes-nowhere : hasArc (arcsOf s) u v ≡ false → goesOnTo s u (v ∷ q) ≡ false
+  unfolding goesOnTo
+  goes-nowhere h = rw h (and-false (allBelow (vertexCount s) (v ∷ q)))
+
+  goes-along : v < vertexCount s → hasArc (arcsOf s) u v ≡ true → goesOnTo s u (v ∷ q) ≡ goesOnTo s v q
+  unfolding goesOnTo
+  goes-along h e = rw (lt-ltb v (vertexCount s) h, e)
+
+goes-end : (s : List ℕ) (u : ℕ) → goesOnTo s u [] ≡ isEnd (graphOf s) u
+unfolding goesOnTo
+goes-end s u = refl
+
+-- the cost of one arc more
+cost-step : (arcs : List (Arc ℤ)) (u v : ℕ) (q : List ℕ) (a c : ℕ) → costOf whole arcs u v ≡ pos c → pos (a + c) +ℤ arcCosts whole arcs (v ∷ q) ≡ pos a +ℤ arcCosts whole arcs (u ∷ v ∷ q)
+cost-step arcs u v q a c e =
+    +ℤ-assoc (pos a) (pos c) (arcCosts whole arcs (v ∷ q))
+    ∙ ap (λ x. pos a +ℤ (x +ℤ arcCosts whole arcs (v ∷ q))) (sym e)
+
+pub walk-fails : {s : List ℕ} {right : Bool} {items : List Item} {p : List ℕ} {w : ℕ} {vb va ab aa : List ℕ} → false ≡ right → Walked s right items p w vb va ab aa false 0
+walk-fails e =
+    record {
+      is-right = e;
+      grown = λ z. absurd (never z);
+      costs = λ z. absurd (never z);
+      low-cost = λ z. absurd (never z);
+    }
+  where
+    never : false ≡ true → ⊥
+    never q = let z : _≡_ {A = ℕ} 0 1 = cc in omega arith
+
+-- Of the lb vertices at b those from j on are left, after u: they decide, and with what they add the totals and the costs are those of all.
+pub record WalkLeft (s t : List ℕ) (b lb from weight : ℕ) (vb vt ab at : List ℕ) (u cost j : ℕ) : Type 0 where
+  pub within : (j ≤ lb) × (u < vertexCount s) × (length vt ≡ maxVertices) × (length at ≡ maxArcs) × (cost ≤ maxCost * j)
+  pub decide : goesOnTo s from (part t b lb) ≡ goesOnTo s u (part t (b + j) (lb - j))
+  pub vertices : (x : ℕ) → x < maxVertices → getD vt x 0 + weight * countOf (vert x) (onward u (part t (b + j) (lb - j))) ≡ getD vb x 0 + weight * countOf (vert x) (onward from (part t b lb))
+  pub arcs : (k : ℕ) → k < arcCount s → getD at k 0 + weight * countOf (arcItem s k) (onward u (part t (b + j) (lb - j))) ≡ getD ab k 0 + weight * countOf (arcItem s k) (onward from (part t b lb))
+  pub costs : pos cost +ℤ arcCosts whole (arcsOf s) (u ∷ part t (b + j) (lb - j)) ≡ arcCosts whole (arcsOf s) (from ∷ part t b lb)
+
+pub walk-begin : {s t : List ℕ} {b lb from weight : ℕ} {vb ab : List ℕ} → from < vertexCount s → Room s vb ab weight 129 → WalkLeft s t b lb from weight vb vb ab ab from 0 0
+walk-begin h room =
+    record {
+      within = omega (arith, room .vertices-long, room .arcs-long);
+      decide = rw (add-zero, sub-zero);
+      vertices = λ x l. rw (add-zero, sub-zero);
+      arcs = λ k l. rw (add-zero, sub-zero);
+      costs = rw (add-zero, sub-zero) (+ℤ-idl _);
+    }
+
+module _ {s t : List ℕ} {b lb from weight : ℕ} {vb vt ab at : List ℕ} {u cost j : ℕ} (inv : WalkLeft s t b lb from weight vb vt ab at u cost j) where
+  -- a total has room for the weight: what was added so far is no more than what the whole path adds
+  module _ (fits : b + lb ≤ length t) (short : lb ≤ 63) (room : Room s vb ab weight 129) where
+    few : (i : Item) → weight * countOf i (onward from (part t b lb)) ≤ weight * 126
+    few i =
+        mul-le-mul-left weight
+        (omega (arith, count-few i (onward from (part t b lb)), length-onward from (part t b lb), part-length t b lb fits))
+
+    pub vertex-room : (x : ℕ) → x < maxVertices → getD vt x 0 ≤ 255 * maxWeight
+    vertex-room x l = omega (arith, inv .vertices x l, few (vert x), room .vertices-low x l, room .low-weight)
+
+    pub arc-room : (k : ℕ) → k < arcCount s → getD at k 0 ≤ 255 * maxWeight
+    arc-room k l = omega (arith, inv .arcs k l, few (arcItem s k), room .arcs-low k l, room .low-weight)
+
+  module _ (fits : b + lb ≤ length t) (more : j < lb) {v : ℕ} (read : v ≡ byte t (b + j)) where
+    rest : part t (b + j) (lb - j) ≡ v ∷ part t (b + (j + 1)) (lb - (j + 1))
+    rest =
+        let e₁ : b + j + 1 ≡ b + (j + 1) = omega arith in
+        let e₂ : lb - j - 1 ≡ lb - (j + 1) = omega arith in
+        part-cons t (b + j) (lb - j) (omega arith) (omega arith) ∙ rw (e₁, e₂, read)
+
+    pub walk-outside : vertexCount s ≤ v → false ≡ goesOnTo s from (part t b lb)
+    walk-outside h = sym (inv .decide ∙ rw rest (goes-outside s u v _ h))
+
+    pub walk-nowhere : Missing ≡ arcNumber (arcsOf s) u v → false ≡ goesOnTo s from (part t b lb)
+    walk-nowhere e = sym (inv .decide ∙ rw rest (goes-nowhere s u v _ (sym (ap isAt e ∙ found-is (arcsOf s) u v 0))))
+
+    module _ {k : ℕ} (right : ArcsRight s) (found : At k ≡ arcNumber (arcsOf s) u v) (inside : v < vertexCount s) where
+      the : TheArc s u v k
+      the = found-arc s u v right k found
+
+      vertex-turn : (x : ℕ) → x < maxVertices → getD (set vt v (getD vt v 0 + weight)) x 0 + weight * countOf (vert x) (onward v (part t (b + (j + 1)) (lb - (j + 1)))) ≡ getD vb x 0 + weight * countOf (vert x) (onward from (part t b lb))
+      vertex-turn x l =
+          grow vt v weight x _ (omega (arith, right .header .few-vertices)) ∙ (rw (rest, zero-add) at (inv .vertices x l))
+
+      arc-turn : (i : ℕ) → i < arcCount s → getD (set at k (getD at k 0 + weight)) i 0 + weight * countOf (arcItem s i) (onward v (part t (b + (j + 1)) (lb - (j + 1)))) ≡ getD ab i 0 + weight * countOf (arcItem s i) (onward from (part t b lb))
+      arc-turn i l =
+          grow at k weight i _ (omega (arith, right .header .few-arcs, the .inside))
+          ∙ (rw (rest, only-arc s right u v k i the l, zero-add) at (inv .arcs i l))
+
+      pub walk-turn : {c : ℕ} → c ≡ arcCost s (arcAt s k) → c ≤ maxCost → WalkLeft s t b lb from weight vb (set vt v (getD vt v 0 + weight)) ab (set at k (getD at k 0 + weight)) v (cost + c) (j + 1)
+      walk-turn {c} e low =
+          record {
+            within = simp length-set (omega arith);
+            decide = inv .decide ∙ rw rest (goes-along s u v _ inside (the .has));
+            vertices = vertex-turn;
+            arcs = arc-turn;
+            costs =
+                cost-step (arcsOf s) u v (part t (b + (j + 1)) (lb - (j + 1))) cost c (the .cost ∙ ap pos (sym e))
+                ∙ ap (λ q. pos cost +ℤ arcCosts whole (arcsOf s) (u ∷ q)) (sym rest)
+                ∙ inv .costs;
+          }
+
+  module _ (h : lb ≤ j) where
+    over : part t (b + j) (lb - j) ≡ []
+    over =
+        let none : lb - j ≡ 0 = omega arith in
+        rw none (part-none t (b + j))
+
+    pub walk-end : {ok : Bool} → lb ≤ 63 → ok ≡ isEnd (graphOf s) u → Walked s (goesOnTo s from (part t b lb)) (onward from (part t b lb)) (from ∷ part t b lb) weight vb vt ab at ok cost
+    walk-end short e =
+        record {
+          is-right = e ∙ sym (inv .decide ∙ rw over (goes-end s u));
+          grown =
+              λ z.
+              record {
+                vertices-long = inv .within .2;
+                arcs-long = inv .within .3;
+                vertices = λ x l. rw (over, mul-zero, add-zero) at (inv .vertices x l);
+                arcs = λ k l. rw (over, mul-zero, add-zero) at (inv .arcs k l);
+              };
+          costs =
+              λ z.
+              sym (+ℤ-idr (pos cost))
+              ∙ ap (λ q. pos cost +ℤ arcCosts whole (arcsOf s) (u ∷ q)) (sym over)
+              ∙ inv .costs;
+          low-cost = λ z. omega arith;
+        }
+
+-- A whole path: its first vertex is counted, and from there on the walk goes on.
+trail-onward : (u : ℕ) (q : List ℕ) → trail (u ∷ q) ≡ vert u ∷ onward u q
+trail-onward u [] = refl
+trail-onward u (v ∷ q) = ap (λ (is : List Item). vert u ∷ arc u v ∷ is) (trail-onward v q)
+
+-- a path passes at most twice as many vertices and arcs as it has vertices
+pub through-few : (i : Item) (p : List ℕ) → countOf i (trail p) ≤ 2 * length p
+through-few i [] = le-refl 0
+through-few i (u ∷ q) =
+    let e : length (trail (u ∷ q)) ≡ suc (length (onward u q)) = ap length (trail-onward u q) in
+    omega (arith, e, count-few i (trail (u ∷ q)), length-onward u q)
+
+module _ (s t : List ℕ) (b lb weight : ℕ) (vb ab : List ℕ) (some : 1 ≤ lb) (fits : b + lb ≤ length t) (u : ℕ) (read : u ≡ byte t b) where
+  opened : part t b lb ≡ u ∷ part t (b + 1) (lb - 1)
+  opened = part-cons t b lb some (omega arith) ∙ rw read
+
+  pub path-outside : vertexCount s ≤ u → PathWalked s (part t b lb) weight vb vb ab ab false 0
+  path-outside h = walk-fails (rw (opened, le-ltb u (vertexCount s) h))
+
+  pub path-no-start : isStart (graphOf s) u ≡ false → PathWalked s (part t b lb) weight vb vb ab ab false 0
+  path-no-start e = walk-fails (rw (opened, e) (sym (and-false (allBelow (vertexCount s) (u ∷ part t (b + 1) (lb - 1))))))
+
+  module _ (inside : u < vertexCount s) (start : isStart (graphOf s) u ≡ true) (few : vertexCount s ≤ maxVertices) where
+    path-is : goesOnTo s u (part t (b + 1) (lb - 1)) ≡ (allBelow (vertexCount s) (u ∷ part t (b + 1) (lb - 1)) && isPath (graphOf s) (u ∷ part t (b + 1) (lb - 1)))
+    unfolding goesOnTo graphOf
+    path-is = rw (lt-ltb u (vertexCount s) inside, start)
+
+    pub path-room : Room s vb ab weight 128 → Room s (set vb u (getD vb u 0 + weight)) ab weight 129
+    path-room room =
+        record {
+          low-weight = room .low-weight;
+          vertices-long = simp length-set (room .vertices-long);
+          arcs-long = room .arcs-long;
+          vertices-low = λ x l. higher x l (ℕ-discrete x u);
+          arcs-low = λ k l. omega (arith, room .arcs-low k l);
+        }
+      where
+        higher : (x : ℕ) → x < maxVertices → Dec (x ≡ u) → getD (set vb u (getD vb u 0 + weight)) x 0 ≤ 129 * maxWeight
+        higher x l (yes e) = rw (e, getD-set-same vb u (getD vb u 0 + weight) 0 (omega (arith, room .vertices-long))) (omega (arith, room .vertices-low u (omega arith), room .low-weight))
+        higher x l (no e) = rw (getD-set-other vb u x (getD vb u 0 + weight) 0 e) (omega (arith, room .vertices-low x l))
+
+    module _ (va aa : List ℕ) (ok : Bool) (cost : ℕ) (long : length vb ≡ maxVertices) (on : Walked s (goesOnTo s u (part t (b + 1) (lb - 1))) (onward u (part t (b + 1) (lb - 1))) (u ∷ part t (b + 1) (lb - 1)) weight (set vb u (getD vb u 0 + weight)) va ab aa ok cost) where
+      path-grown : Grown s weight (onward u (part t (b + 1) (lb - 1))) (set vb u (getD vb u 0 + weight)) va ab aa → Grown s weight (vert u ∷ onward u (part t (b + 1) (lb - 1))) vb va ab aa
+      path-grown g =
+          record {
+            vertices-long = g .vertices-long;
+            arcs-long = g .arcs-long;
+            vertices = λ x l. g .vertices x l ∙ grow vb u weight x (countOf (vert x) (onward u (part t (b + 1) (lb - 1)))) (omega arith);
+            arcs = λ k l. g .arcs k l ∙ rw zero-add;
+          }
+
+      pub path-walked : PathWalked s (part t b lb) weight vb va ab aa ok cost
+      path-walked =
+          rw opened
+          (rw (trail-onward u (part t (b + 1) (lb - 1)), ← path-is)
+          (record {
+            is-right = on .is-right;
+            grown = λ z. path-grown (on .grown z);
+            costs = on .costs;
+            low-cost = on .low-cost;
+          }))

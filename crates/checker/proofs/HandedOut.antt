@@ -1,0 +1,81 @@
+-- The hand-out: where nothing is refused, what is handed out is the path of that number in a lowest-price cover and a part of the answer; else it is empty.
+-- "it gives the vertex bytes of that path as a part of the answer, or an empty part where the checker would refuse or 23 holds"
+use Prim.Native.Nat.{ℕ, zero, suc, _+_, _≤_, _<_}
+use native.Mathlib.Omega.{arith}
+use mathlib.Core.Path.{_≡_, refl, sym, ap, subst, _∙_}
+use mathlib.Core.List.{List, []}
+use mathlib.Core.Bool.{cond}
+use lib.Dec.{ltb, ltb→lt}
+use lib.ListN.{length, getD}
+use borrow.Author.Tests.{eq-eqb, ne-eqb}
+use Rattle.mathematics.specs.Price.{whole}
+use Rattle.mathematics.specs.Cover.{Weighted, IsLowest}
+use Rattle.checker.specs.Bytes.{part}
+use Rattle.checker.specs.GraphForm.{vertexCount}
+use Rattle.checker.specs.GraphOf.{graphOf}
+use Rattle.checker.specs.GraphFaults.{refusal, nothingRefused}
+use Rattle.checker.specs.AnswerForm.{pathCount, firstPathAt, pathHeaderLength, pathWeight, pathLength, pathVertices, pathEnd, pathOf, pathsFrom, coverOf}
+use Rattle.checker.specs.Check.{checkVerdict, handOutVerdict, pathAt, handedOut}
+use Rattle.checker.proofs.Accepted.{earlier-first, held, PathsRight, number-zero-accepted}
+use Rattle.checker.proofs.Soundness.{accepted-is-lowest}
+
+-- what stands for a path whose number is not below the number of paths
+abbrev pub noPath : Weighted
+noPath = record { weight = 0; path = [] }
+
+-- "23: path number asked for not below the number of paths", after 22
+pub number-zero-handed-out : (s t : List ℕ) (k : ℕ) → handOutVerdict s t k .number ≡ 0 → (checkVerdict s t .number ≡ 0) × (k < pathCount t)
+unfolding handOutVerdict
+number-zero-handed-out s t k e =
+    let h = earlier-first (checkVerdict s t) (cond (ltb k (pathCount t)) nothingRefused (refusal 23 0)) e in
+    (h .0, ltb→lt _ _ (held (ltb k (pathCount t)) 22 0 nothingRefused (h .1) .0))
+
+module _ (t : List ℕ) where
+  paths-length : (count at : ℕ) → length (pathsFrom t count at) ≡ count
+  paths-length zero at = refl
+  paths-length (suc count) at = ap suc (paths-length count (pathEnd t at))
+
+  -- the record of path k is where pathAt says
+  path-k : (count at k : ℕ) → k < count → getD (pathsFrom t count at) k noPath ≡ pathOf t (pathAt t k at)
+  path-k zero at k h = absurd (omega arith)
+  path-k (suc count) at zero h = refl
+  path-k (suc count) at (suc k) h = path-k count (pathEnd t at) k (omega arith)
+
+  -- and it ends within the answer
+  path-k-within : (s : List ℕ) (count at k : ℕ) (before : List ℕ) (copies : ℕ) → PathsRight s t count at before copies → k < count → pathEnd t (pathAt t k at) ≤ length t
+  path-k-within s zero at k before copies h l = absurd (omega arith)
+  path-k-within s (suc count) at zero before copies h l = h .0 .within
+  path-k-within s (suc count) at (suc k) before copies h l =
+      path-k-within s count (pathEnd t at) k (pathVertices t at) (copies + pathWeight t at) (h .1) (omega arith)
+
+-- what is handed out where nothing is refused
+pub record HandsOut (s t : List ℕ) (k : ℕ) : Type 0 where
+  pub lowest : IsLowest whole (graphOf s) (coverOf (vertexCount s) t)
+  pub is-one : k < length (coverOf (vertexCount s) t)
+  pub is-path-k : handedOut s t k ≡ getD (coverOf (vertexCount s) t) k noPath .path
+  pub start : ℕ
+  pub count : ℕ
+  pub within : start + count ≤ length t
+  pub is-part : handedOut s t k ≡ part t start count
+
+-- the vertex bytes of path k of the answer, whose paths are a lowest-price cover of the graph, as a part of the answer
+pub handed-out-is-path-k : (s t : List ℕ) (k : ℕ) → handOutVerdict s t k .number ≡ 0 → HandsOut s t k
+unfolding handedOut coverOf
+handed-out-is-path-k s t k e =
+    let h = number-zero-handed-out s t k e in
+    let at = pathAt t k (firstPathAt (vertexCount s)) in
+    let vertices : handedOut s t k ≡ pathVertices t at = simp (eq-eqb _ _ e) in
+    record {
+      lowest = accepted-is-lowest s t (h .0) .0;
+      is-one = subst (λ n. k < n) (sym (paths-length t (pathCount t) (firstPathAt (vertexCount s)))) (h .1);
+      is-path-k = vertices ∙ sym (ap (λ (w : Weighted). w .path) (path-k t (pathCount t) (firstPathAt (vertexCount s)) k (h .1)));
+      start = at + pathHeaderLength;
+      count = pathLength t at;
+      within = path-k-within t s (pathCount t) (firstPathAt (vertexCount s)) k [] 0 (number-zero-accepted s t (h .0) .paths) (h .1);
+      is-part = vertices;
+    }
+
+-- an empty part where the checker would refuse or 23 holds
+pub handed-out-empty : (s t : List ℕ) (k : ℕ) → (handOutVerdict s t k .number ≡ 0 → ⊥) → handedOut s t k ≡ []
+unfolding handedOut
+handed-out-empty s t k n = simp (ne-eqb _ _ n)

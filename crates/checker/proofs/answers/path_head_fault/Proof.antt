@@ -1,0 +1,71 @@
+-- `checker::answers::path_head_fault` judges the head of a path's record.
+use Rattle.checker.proofs.AnswerPaths.{head-short, head-empty, head-many, head-past, head-light, head-heavy, head-right}
+use native.Mathlib.Omega.{arith}
+use borrow.Author.Needs.{needs}
+use Rattle.checker.proofs.answers.path_head_fault.Statement.{statement}
+use Rattle.checker.proofs.answers.path_head_fault.Tie as tie
+
+sub-if1 : tie.Need-sub-if1
+sub-if1 c = search needs
+
+returns : tie.Need-returns
+returns c = (head-short _ _ _ (search needs), λ z. absurd (omega arith))
+
+add-wide : tie.Need-add-wide
+add-wide c = search needs
+
+shared-slice-read-wide : tie.Need-shared-slice-read-wide
+shared-slice-read-wide c = search needs
+
+wide-requires : tie.Need-wide-requires
+wide-requires c κs = search needs
+
+returns-2 : tie.Need-returns-2
+returns-2 c = (head-empty _ _ _ (search needs) (search needs), λ z. absurd (omega arith))
+
+returns-3 : tie.Need-returns-3
+returns-3 c = (head-many _ _ _ (search needs) (search needs) (search needs), λ z. absurd (omega arith))
+
+add-if4 : tie.Need-add-if4
+add-if4 c = search needs
+
+add-if4-2 : tie.Need-add-if4-2
+add-if4-2 c = search needs
+
+returns-4 : tie.Need-returns-4
+returns-4 c = (head-past _ _ _ (search needs) (search needs) (search needs) (search needs), λ z. absurd (omega arith))
+
+be32-requires : tie.Need-be32-requires
+be32-requires c κs = search needs
+
+returns-5 : tie.Need-returns-5
+returns-5 c = (head-light _ _ _ (search needs) (search needs) (search needs) (search needs) (search needs), λ z. absurd (omega arith))
+
+add-if6 : tie.Need-add-if6
+add-if6 c = search needs
+
+returns-6 : tie.Need-returns-6
+returns-6 c = (head-heavy _ _ _ (search needs) (search needs) (search needs) (search needs) (search needs) (search needs), λ z. absurd (omega arith))
+
+returns-7 : tie.Need-returns-7
+returns-7 c = (head-right _ _ _ (search needs) (search needs) (search needs) (search needs) (search needs) (search needs), λ z. record { whole = search needs; some = search needs; short = search needs; weighs = search needs; few-copies = search needs })
+
+pub path-head-fault-spec : {M : Type 1} → statement M
+path-head-fault-spec =
+    tie.close
+    (tie.spec
+    sub-if1
+    returns
+    add-wide
+    shared-slice-read-wide
+    wide-requires
+    returns-2
+    returns-3
+    add-if4
+    add-if4-2
+    returns-4
+    be32-requires
+    returns-5
+    add-if6
+    returns-6
+    returns-7)

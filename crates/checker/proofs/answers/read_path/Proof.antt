@@ -1,0 +1,65 @@
+-- `checker::answers::read_path` judges one path's record and tallies it.
+use borrow.Author.Tests.{not-true, not-false}
+use mathlib.Core.Path.{sym, _∙_}
+use Rattle.checker.proofs.AnswerPaths.{record-refused, record-no-path, record-no-order, record-right, fault-head, room-for}
+use native.Mathlib.Omega.{arith}
+use borrow.Author.Needs.{needs}
+use Rattle.checker.proofs.answers.read_path.Statement.{statement}
+use Rattle.checker.proofs.answers.read_path.Tie as tie
+
+path-head-fault-requires : tie.Need-path-head-fault-requires
+path-head-fault-requires c κs = search needs
+
+returns : tie.Need-returns
+returns c = record-refused _ _ _ _ _ (fault-head _ _ _ _ _ _ (c .before .path-head-fault .ensures .0) (c .if1 .taken)) (c .if1 .taken)
+
+be32-requires : tie.Need-be32-requires
+be32-requires c κs = omega (arith, (c .before .path-head-fault .ensures .1 (c .if1 .left)))
+
+add-wide : tie.Need-add-wide
+add-wide c = search needs
+
+shared-slice-read-wide : tie.Need-shared-slice-read-wide
+shared-slice-read-wide c = omega (arith, (c .before .before .before .path-head-fault .ensures .1 (c .before .before .if1 .left)))
+
+wide-requires : tie.Need-wide-requires
+wide-requires c κs = search needs
+
+add-b : tie.Need-add-b
+add-b c = search needs
+
+walk-path-requires : tie.Need-walk-path-requires
+walk-path-requires c κs = ((c .before .before .before .before .before .before .before .before .before .pre .0 .0, c .before .before .before .before .before .before .before .before .before .pre .0 .1, omega (arith, (c .before .before .before .before .before .before .path-head-fault .ensures .1 (c .before .before .before .before .before .if1 .left)), (c .before .before .wide .ensures .0)), omega (arith, (c .before .before .before .before .before .before .path-head-fault .ensures .1 (c .before .before .before .before .before .if1 .left)), (c .before .before .wide .ensures .0))), (omega (arith, (c .before .before .before .before .before .before .path-head-fault .ensures .1 (c .before .before .before .before .before .if1 .left)), (c .before .before .wide .ensures .0)), room-for (c .before .before .before .before .before .before .before .before .before .pre .1 .0) (omega (arith, (c .before .before .before .before .before .before .path-head-fault .ensures .1 (c .before .before .before .before .before .if1 .left)), (c .before .before .before .before .be32 .ensures .0)))))
+
+returns-2 : tie.Need-returns-2
+returns-2 c = record-no-path _ _ _ _ _ (c .before .before .before .before .before .before .before .before .before .path-head-fault .ensures .1 (c .before .before .before .before .before .before .before .before .if1 .left)) (sym (c .before .before .before .before .before .before .before .before .before .path-head-fault .ensures .0) ∙ c .before .before .before .before .before .before .before .before .if1 .left) (c .before .before .before .before .before .before .before .be32 .ensures .0) (c .before .before .before .before .before .wide .ensures .0) (c .before .before .walk-path .ensures) (not-true _ (c .if2 .taken))
+
+comes-before-requires : tie.Need-comes-before-requires
+comes-before-requires c κs = (c .before .before .before .before .before .before .before .before .before .before .before .before .pre .0 .3, omega (arith, (c .before .before .before .before .before .before .before .before .before .path-head-fault .ensures .1 (c .before .before .before .before .before .before .before .before .if1 .left)), (c .before .before .before .before .before .wide .ensures .0)))
+
+returns-3 : tie.Need-returns-3
+returns-3 c = record-no-order _ _ _ _ _ (c .before .before .before .before .before .before .before .before .before .before .before .path-head-fault .ensures .1 (c .before .before .before .before .before .before .before .before .before .before .if1 .left)) (sym (c .before .before .before .before .before .before .before .before .before .before .before .path-head-fault .ensures .0) ∙ c .before .before .before .before .before .before .before .before .before .before .if1 .left) (c .before .before .before .before .before .before .before .before .before .be32 .ensures .0) (c .before .before .before .before .before .before .before .wide .ensures .0) (c .before .before .before .before .walk-path .ensures) (not-false _ (c .before .before .if2 .left)) (c .before .comes-before .ensures) (not-true _ (c .if3 .taken))
+
+mark-reads-requires : tie.Need-mark-reads-requires
+mark-reads-requires c κs = (c .before .before .before .before .before .before .before .before .before .before .before .before .before .before .before .pre .0 .0, omega (arith, (c .before .before .before .before .before .before .before .before .before .before .before .before .path-head-fault .ensures .1 (c .before .before .before .before .before .before .before .before .before .before .before .if1 .left)), (c .before .before .before .before .before .before .before .before .wide .ensures .0)), c .before .before .before .before .before .before .before .before .before .before .before .before .before .before .before .pre .1 .1)
+
+returns-4 : tie.Need-returns-4
+returns-4 c = record-right _ _ _ _ _ (c .before .before .before .before .before .before .before .before .before .before .before .before .before .path-head-fault .ensures .1 (c .before .before .before .before .before .before .before .before .before .before .before .before .if1 .left)) (sym (c .before .before .before .before .before .before .before .before .before .before .before .before .before .path-head-fault .ensures .0) ∙ c .before .before .before .before .before .before .before .before .before .before .before .before .if1 .left) (c .before .before .before .before .before .before .before .before .before .before .before .be32 .ensures .0) (c .before .before .before .before .before .before .before .before .before .wide .ensures .0) (c .before .before .before .before .before .before .walk-path .ensures) (not-false _ (c .before .before .before .before .if2 .left)) (c .before .before .before .comes-before .ensures) (not-false _ (c .before .before .if3 .left)) (c .mark-reads .ensures)
+
+pub read-path-spec : {M : Type 1} → statement M
+read-path-spec =
+    tie.close
+    (tie.spec
+    path-head-fault-requires
+    returns
+    be32-requires
+    add-wide
+    shared-slice-read-wide
+    wide-requires
+    add-b
+    walk-path-requires
+    returns-2
+    comes-before-requires
+    returns-3
+    mark-reads-requires
+    returns-4)

@@ -1,0 +1,117 @@
+-- What reading the paths of an answer tallies: for each vertex and arc the weights of the paths through it, for each read whether a path holds it,
+-- and the price of the paths. Document 01: "the weights of the paths through it total at least its demand, and each read is satisfied by some path".
+use Prim.Native.Nat.{ℕ, _+_, _*_, _<_, _≤_}
+use mathlib.Core.Path.{_≡_}
+use mathlib.Core.List.{List, [], _∷_}
+use mathlib.Core.Bool.{Bool, true, false, cond, _&&_, _||_}
+use lib.Dec.{ltb, eqb}
+use lib.ListN.{length, getD}
+use lib.IntN.{pos}
+use Rattle.mathematics.specs.Price.{whole}
+use Rattle.mathematics.specs.Lists.{lastOf, holds, someHolds}
+use Rattle.mathematics.specs.Graph.{linked, isPath, isEnd}
+use Rattle.mathematics.specs.Cover.{Item, vert, arc, countOf, trail, arcCosts, total, paths, price}
+use Rattle.checker.specs.Limits.{maxVertices, maxArcs, maxReads, maxCost, maxWeight, maxPathLength}
+use Rattle.checker.specs.GraphForm.{vertexCount, arcCount, arcAt, arcTail, arcHead, readCount, firstReadAt}
+use Rattle.checker.specs.GraphOf.{graphOf, arcsOf, readsFrom}
+use Rattle.checker.specs.GraphFaults.{allBelow, refusal, nothingRefused}
+use Rattle.checker.specs.AnswerForm.{pathCount, firstPathAt, pathHeaderLength, pathWeight, pathLength, pathVertices, pathEnd, coverOf}
+use Rattle.checker.specs.AnswerFaults.{pathFault, pathsVerdict}
+
+-- read r of a graph form
+abbrev pub readOf : List ℕ → ℕ → List ℕ
+readOf s r = getD (readsFrom s (readCount s) (firstReadAt s)) r []
+
+-- the reads that the path p holds are met besides those that were met before
+pub record Marked (s p : List ℕ) (before after : List Bool) : Type 0 where
+  pub long : length after ≡ maxReads
+  pub met : (r : ℕ) → r < readCount s → getD after r false ≡ (getD before r false || holds p (readOf s r))
+
+-- arc k of a graph form
+abbrev pub arcItem : List ℕ → ℕ → Item
+arcItem s k = arc (arcTail s (arcAt s k)) (arcHead s (arcAt s k))
+
+-- the arcs and vertices that a path passes after u, in turn
+abbrev pub onward : ℕ → List ℕ → List Item
+onward u [] = []
+onward u (v ∷ q) = arc u v ∷ vert v ∷ onward v q
+
+-- the path goes on rightly from u along q: vertices of the graph, each pair an arc, the last an end
+unfoldable pub goesOnTo : List ℕ → ℕ → List ℕ → Bool
+goesOnTo s u q = allBelow (vertexCount s) q && (linked (arcsOf s) (u ∷ q) && isEnd (graphOf s) (lastOf u q))
+
+-- the totals of vertices and of arcs are as many as there can be, and have room for the weight of one more path
+pub record Room (s vertexTotals arcTotals : List ℕ) (weight times : ℕ) : Type 0 where
+  pub low-weight : weight ≤ maxWeight
+  pub vertices-long : length vertexTotals ≡ maxVertices
+  pub arcs-long : length arcTotals ≡ maxArcs
+  pub vertices-low : (v : ℕ) → v < maxVertices → getD vertexTotals v 0 ≤ times * maxWeight
+  pub arcs-low : (k : ℕ) → k < arcCount s → getD arcTotals k 0 ≤ times * maxWeight
+
+-- the total of each vertex and each arc has grown by the weight as often as it is among the items
+pub record Grown (s : List ℕ) (weight : ℕ) (items : List Item) (vb va ab aa : List ℕ) : Type 0 where
+  pub vertices-long : length va ≡ maxVertices
+  pub arcs-long : length aa ≡ maxArcs
+  pub vertices : (v : ℕ) → v < maxVertices → getD va v 0 ≡ getD vb v 0 + weight * countOf (vert v) items
+  pub arcs : (k : ℕ) → k < arcCount s → getD aa k 0 ≡ getD ab k 0 + weight * countOf (arcItem s k) items
+
+-- what walking along p gives: whether it is right, and where it is, the totals grown by the items on it and the costs of its arcs
+pub record Walked (s : List ℕ) (right : Bool) (items : List Item) (p : List ℕ) (weight : ℕ) (vb va ab aa : List ℕ) (ok : Bool) (cost : ℕ) : Type 0 where
+  pub is-right : ok ≡ right
+  pub grown : ok ≡ true → Grown s weight items vb va ab aa
+  pub costs : ok ≡ true → pos cost ≡ arcCosts whole (arcsOf s) p
+  pub low-cost : ok ≡ true → cost ≤ maxCost * maxPathLength
+
+-- what walking along a whole path gives
+abbrev pub PathWalked : List ℕ → List ℕ → ℕ → List ℕ → List ℕ → List ℕ → List ℕ → Bool → ℕ → Type 0
+PathWalked s p = Walked s (allBelow (vertexCount s) p && isPath (graphOf s) p) (trail p) p
+
+-- the head of a path's record, so far as it can be judged without the graph: 15, 16, 15 or 17
+unfoldable pub pathHeadFault : List ℕ → ℕ → ℕ → ℕ
+pathHeadFault t at copies =
+    cond (ltb (length t) (at + pathHeaderLength)) 15
+    (cond (eqb (pathLength t at) 0 || ltb maxPathLength (pathLength t at)) 16
+    (cond (ltb (length t) (pathEnd t at)) 15
+    (cond (eqb (pathWeight t at) 0 || ltb maxWeight (copies + pathWeight t at)) 17 0)))
+
+-- the head of a path's record is right
+pub record PathHead (t : List ℕ) (at copies : ℕ) : Type 0 where
+  pub whole : pathEnd t at ≤ length t
+  pub some : 1 ≤ pathLength t at
+  pub short : pathLength t at ≤ maxPathLength
+  pub weighs : 1 ≤ pathWeight t at
+  pub few-copies : copies + pathWeight t at ≤ maxWeight
+
+-- a path's record is right and is tallied: totals grown (b before, a after), reads marked, the costs of its arcs found
+pub record Recorded (s t : List ℕ) (at copies : ℕ) (vb va ab aa : List ℕ) (mb ma : List Bool) (cost : ℕ) : Type 0 where
+  pub head : PathHead t at copies
+  pub grown : Grown s (pathWeight t at) (trail (pathVertices t at)) vb va ab aa
+  pub marked : Marked s (pathVertices t at) mb ma
+  pub costs : pos cost ≡ arcCosts whole (arcsOf s) (pathVertices t at)
+  pub low-cost : cost ≤ maxCost * maxPathLength
+
+-- what reading one path's record gives: its fault, and where there is none the tallies
+pub record PathRead (s t : List ℕ) (at : ℕ) (before : List ℕ) (copies : ℕ) (vb va ab aa : List ℕ) (mb ma : List Bool) (fault cost : ℕ) : Type 0 where
+  pub is-fault : fault ≡ pathFault s t at before copies
+  pub tallied : fault ≡ 0 → Recorded s t at copies vb va ab aa mb ma cost
+
+-- nothing is tallied yet
+pub record NothingTallied (vertexTotals arcTotals : List ℕ) (met : List Bool) : Type 0 where
+  pub vertices-long : length vertexTotals ≡ maxVertices
+  pub arcs-long : length arcTotals ≡ maxArcs
+  pub reads-long : length met ≡ maxReads
+  pub vertices : (v : ℕ) → getD vertexTotals v 0 ≡ 0
+  pub arcs : (k : ℕ) → getD arcTotals k 0 ≡ 0
+  pub reads : (r : ℕ) → getD met r false ≡ false
+
+-- the tallies are those of all paths of the answer
+pub record Tallied (s t vertexTotals arcTotals : List ℕ) (met : List Bool) (cost : ℕ) : Type 0 where
+  pub vertices : (v : ℕ) → v < vertexCount s → getD vertexTotals v 0 ≡ total (vert v) (coverOf (vertexCount s) t)
+  pub arcs : (k : ℕ) → k < arcCount s → getD arcTotals k 0 ≡ total (arcItem s k) (coverOf (vertexCount s) t)
+  pub reads : (r : ℕ) → r < readCount s → getD met r false ≡ someHolds (paths (coverOf (vertexCount s) t)) (readOf s r)
+  pub costs : pos cost ≡ price whole (graphOf s) (coverOf (vertexCount s) t)
+
+-- what reading all paths gives: the verdict, and where nothing is refused the tallies
+pub record PathsRead (s t vertexTotals arcTotals : List ℕ) (met : List Bool) (number place cost : ℕ) : Type 0 where
+  pub verdict : refusal number place ≡ pathsVerdict s t (pathCount t) (firstPathAt (vertexCount s)) [] 0 nothingRefused
+  pub tallied : number ≡ 0 → Tallied s t vertexTotals arcTotals met cost

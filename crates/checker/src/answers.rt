@@ -1,0 +1,479 @@
+// Reading the answer form beside a graph form that reads: numbers 11 to 18.
+use crate::Answer;
+use crate::Found;
+use crate::Graph;
+use crate::Verdict;
+use crate::bytes::be16;
+use crate::bytes::be32;
+use crate::bytes::wide;
+use crate::reader::find_arc;
+ghost use mathlib.Core.Path.{_≡_};
+ghost use Prim.Native.Nat.{_+_, _*_, _<_, _≤_};
+ghost use mathlib.Core.List.{_∷_};
+ghost use lib.ListN.{length};
+ghost use lib.IntN.{subℕ};
+ghost use mathlib.Core.Bool.{_||_};
+ghost use Rattle.mathematics.specs.Lists.{begins, holds};
+ghost use Rattle.mathematics.specs.Graph.{isStart, isEnd};
+ghost use Rattle.checker.specs.Bytes.{part};
+ghost use Rattle.checker.specs.GraphForm.{vertexCount, arcCount, flags, arcAt, arcCost};
+ghost use Rattle.checker.specs.GraphOf.{graphOf};
+ghost use Rattle.checker.specs.GraphFaults.{nothingRefused};
+ghost use Rattle.checker.specs.Limits.{maxReads, maxCost, maxWeight};
+ghost use Rattle.checker.specs.GraphReads.{Reads};
+ghost use Rattle.checker.specs.ArcTable.{ArcTable};
+ghost use Rattle.checker.specs.Tallies.{Marked, Room, Walked, PathWalked, goesOnTo, onward, pathHeadFault, PathHead, PathRead, NothingTallied, PathsRead};
+ghost use Rattle.checker.specs.AnswerForm.{signed32, inMarkAt, firstPathAt};
+ghost use Rattle.checker.specs.AnswerFaults.{answerHeaderVerdict, markFault, marksVerdict, listBefore};
+
+impl Answer {
+    // Document 01, "The two forms": how long the header, a mark, a vertex's marks, a weight, the head of a path's record and a path at the most are,
+    // and where version and number of paths stand.
+    pub const HEADER: usize = 15;
+
+    pub const MARK: usize = 4;
+
+    pub const MARKS: usize = 8;
+
+    pub const WEIGHT: usize = 4;
+
+    pub const PATH: usize = 5;
+
+    pub const MAX_PATH: usize = 64;
+
+    pub const AT_VERSION: usize = 4;
+
+    pub const AT_PATHS: usize = 5;
+}
+
+// What is wrong with the header: 11, 12 or 13.
+pub fn header_verdict(s: &[u8], t: &[u8]) -> Verdict
+    requires { ⌜ 5 < length (now s) ⌝ }
+    ensures { λ r. ⌜ r ≡ answerHeaderVerdict (now (s .entry)) (now (t .entry)) nothingRefused ⌝ }
+{
+    if t.len() < Answer::HEADER + Answer::MARKS * wide(s[Graph::AT_VERTICES]) {
+        return Verdict {
+            number: 11,
+            place: 0,
+        };
+    }
+    if be32(t, 0) != t.len() {
+        return Verdict {
+            number: 11,
+            place: 0,
+        };
+    }
+    if wide(t[Answer::AT_VERSION]) != 1 {
+        return Verdict {
+            number: 12,
+            place: Answer::AT_VERSION,
+        };
+    }
+    if Answer::MAX_PATHS < be16(t, Answer::AT_PATHS) {
+        return Verdict {
+            number: 13,
+            place: Answer::AT_PATHS,
+        };
+    }
+    Verdict {
+        number: 0,
+        place: 0,
+    }
+}
+
+// A mark is in range where its 32 bits are at most the limit, or at least 2^32 less the limit.
+fn mark_fault(t: &[u8], at: usize) -> usize
+    requires { ⌜ at + 3 < length (now t) ⌝ }
+    ensures { λ r. ⌜ r ≡ markFault (now (t .entry)) at ⌝ }
+{
+    let x = be32(t, at);
+    if x <= Answer::MARK_LIMIT {
+        return 0;
+    }
+    if 4_294_967_296 - Answer::MARK_LIMIT <= x {
+        return 0;
+    }
+    14
+}
+
+// The first mark out of range, of the marks of n vertices.
+pub fn marks_verdict(t: &[u8], n: usize) -> Verdict
+    requires { ⌜ (15 + 8 * n ≤ length (now t)) × (n < 256) ⌝ }
+    ensures { λ r. ⌜ r ≡ marksVerdict (now (t .entry)) (2 * n) (inMarkAt 0) nothingRefused ⌝ }
+{
+    let mut left = 2 * n;
+    let mut at = Answer::HEADER;
+    while 0 < left {
+        let fault = mark_fault(t, at);
+        if fault != 0 {
+            return Verdict {
+                number: fault,
+                place: at,
+            };
+        }
+        at += Answer::MARK;
+        left -= 1;
+    }
+    Verdict {
+        number: 0,
+        place: 0,
+    }
+}
+
+// A mark in range with the limit added, which makes it a number that is not below 0.
+pub fn mark_plus(t: &[u8], at: usize) -> usize
+    requires { ⌜ (at + 3 < length (now t)) × (markFault (now t) at ≡ 0) ⌝ }
+    ensures { λ r. ⌜ (signed32 (now (t .entry)) at ≡ subℕ r 2000000000) × (r ≤ 4000000000) ⌝ }
+{
+    let x = be32(t, at);
+    if x <= Answer::MARK_LIMIT {
+        return x + Answer::MARK_LIMIT;
+    }
+    x - (4_294_967_296 - Answer::MARK_LIMIT)
+}
+
+// Whether the la bytes at a come before the lb bytes at b, as lists of numbers.
+fn comes_before(t: &[u8], a: usize, la: usize, b: usize, lb: usize) -> bool
+    requires { ⌜ (a + la ≤ length (now t)) × (b + lb ≤ length (now t)) ⌝ }
+    ensures { λ r. ⌜ r ≡ listBefore (part (now (t .entry)) a la) (part (now (t .entry)) b lb) ⌝ }
+{
+    let mut i = 0;
+    while i < la {
+        if lb <= i {
+            return false;
+        }
+        let x = t[a + i];
+        let y = t[b + i];
+        if x < y {
+            return true;
+        }
+        if x != y {
+            return false;
+        }
+        i += 1;
+    }
+    i < lb
+}
+
+// Whether the lb bytes of t at b begin with the la bytes of s at a.
+fn begins_at(s: &[u8], a: usize, la: usize, t: &[u8], b: usize, lb: usize) -> bool
+    requires { ⌜ (a + la ≤ length (now s)) × (b + lb ≤ length (now t)) × (la ≤ lb) ⌝ }
+    ensures { λ r. ⌜ r ≡ begins (part (now (s .entry)) a la) (part (now (t .entry)) b lb) ⌝ }
+{
+    let mut i = 0;
+    while i < la {
+        let x = s[a + i];
+        let y = t[b + i];
+        if x != y {
+            return false;
+        }
+        i += 1;
+    }
+    true
+}
+
+// Whether the lb bytes of t at b hold the la bytes of s at a consecutively. Only where the first is met the others are compared.
+fn holds_read(s: &[u8], a: usize, la: usize, t: &[u8], b: usize, lb: usize) -> bool
+    requires { ⌜ (a + la ≤ length (now s)) × (b + lb ≤ length (now t)) × (0 < la) × (la < 256) ⌝ }
+    ensures { λ r. ⌜ r ≡ holds (part (now (t .entry)) b lb) (part (now (s .entry)) a la) ⌝ }
+{
+    let first = s[a];
+    let mut j = 0;
+    while j + la <= lb {
+        let y = t[b + j];
+        if y != first {
+            j += 1;
+            continue;
+        }
+        if begins_at(s, a, la, t, b + j, lb - j) {
+            return true;
+        }
+        j += 1;
+    }
+    false
+}
+
+// Whether a read that was met by a path before, or not, is met now: the path is looked at only where the read was not.
+fn met_now(met: bool, s: &[u8], a: usize, la: usize, t: &[u8], b: usize, lb: usize) -> bool
+    requires { ⌜ (a + la ≤ length (now s)) × (b + lb ≤ length (now t)) × (0 < la) × (la < 256) ⌝ }
+    ensures { λ r. ⌜ r ≡ (met || holds (part (now (t .entry)) b lb) (part (now (s .entry)) a la)) ⌝ }
+{
+    if met {
+        return true;
+    }
+    holds_read(s, a, la, t, b, lb)
+}
+
+// Marks the reads that the path of lb vertices at b holds. Reads are walked by their records.
+fn mark_reads(s: &[u8], t: &[u8], b: usize, lb: usize, met: &mut [bool; Graph::MAX_READS])
+    requires { ⌜ Reads (now s) × (b + lb ≤ length (now t)) × (length (now met) ≡ maxReads) ⌝ }
+    ensures { λ r. ⌜ Marked (now (s .entry)) (part (now (t .entry)) b lb) (now (met .entry)) (now (met .exit)) ⌝ }
+{
+    let count = wide(s[Graph::AT_READS]);
+    let mut at = Graph::HEADER
+        + Graph::VERTEX * wide(s[Graph::AT_VERTICES])
+        + Graph::ARC * be16(s, Graph::AT_ARCS);
+    let mut r = 0;
+    while r < count {
+        let la = wide(s[at]);
+        met[r] = met_now(met[r], s, at + 1, la, t, b, lb);
+        at = at + 1 + la;
+        r += 1;
+    }
+}
+
+// What walking along a path gives: whether it is a path of the graph, and the costs of its arcs.
+pub struct Walk {
+    pub ok: bool,
+    pub cost: usize,
+}
+
+// The flag byte of vertex v.
+fn flag_of(s: &[u8], v: usize) -> usize
+    requires { ⌜ Reads (now s) × (v < vertexCount (now s)) ⌝ }
+    ensures { λ r. ⌜ r ≡ flags (now (s .entry)) v ⌝ }
+{
+    wide(s[Graph::HEADER + Graph::VERTEX * v])
+}
+
+fn is_start(s: &[u8], v: usize) -> bool
+    requires { ⌜ Reads (now s) × (v < vertexCount (now s)) ⌝ }
+    ensures { λ r. ⌜ r ≡ isStart (graphOf (now (s .entry))) v ⌝ }
+{
+    flag_of(s, v) % 2 == 1
+}
+
+fn is_end(s: &[u8], v: usize) -> bool
+    requires { ⌜ Reads (now s) × (v < vertexCount (now s)) ⌝ }
+    ensures { λ r. ⌜ r ≡ isEnd (graphOf (now (s .entry))) v ⌝ }
+{
+    flag_of(s, v) / 2 == 1
+}
+
+// The cost of arc k.
+fn cost_of(s: &[u8], n: usize, k: usize) -> usize
+    requires { ⌜ Reads (now s) × (n ≡ vertexCount (now s)) × (k < arcCount (now s)) ⌝ }
+    ensures { λ r. ⌜ r ≡ arcCost (now (s .entry)) (arcAt (now (s .entry)) k) ⌝ }
+    ensures low { λ r. ⌜ r ≤ maxCost ⌝ }
+{
+    be32(s, Graph::HEADER + Graph::VERTEX * n + Graph::ARC * k + 2)
+}
+
+// Walks on from vertex u, which is counted already, along lb vertices at b: one look for an arc with each.
+fn walk_on(
+    s: &[u8],
+    first: &[u16; Graph::MAX_VERTICES + 1],
+    t: &[u8],
+    b: usize,
+    lb: usize,
+    from: usize,
+    weight: usize,
+    vertex_totals: &mut [usize; Graph::MAX_VERTICES],
+    arc_totals: &mut [usize; Graph::MAX_ARCS],
+) -> Walk
+    requires { ⌜ Reads (now s) × ArcTable (now s) (now first) × (from < vertexCount (now s)) ⌝ }
+    requires { ⌜ (lb ≤ 63) × (b + lb ≤ length (now t)) × Room (now s) (now «vertex_totals») (now «arc_totals») weight 129 ⌝ }
+    ensures { λ r. ⌜ Walked (now (s .entry)) (goesOnTo (now (s .entry)) from (part (now (t .entry)) b lb)) (onward from (part (now (t .entry)) b lb)) (from ∷ part (now (t .entry)) b lb) weight (now («vertex_totals» .entry)) (now («vertex_totals» .exit)) (now («arc_totals» .entry)) (now («arc_totals» .exit)) (r .ok) (r .cost) ⌝ }
+{
+    let n = wide(s[Graph::AT_VERTICES]);
+    let mut u = from;
+    let mut cost = 0;
+    let mut j = 0;
+    while j < lb {
+        let v = wide(t[b + j]);
+        if n <= v {
+            return Walk { ok: false, cost: 0 };
+        }
+        let found = find_arc(s, first, u, v);
+        let Found::At(k) = found else {
+            return Walk { ok: false, cost: 0 };
+        };
+        arc_totals[k] = arc_totals[k] + weight;
+        vertex_totals[v] = vertex_totals[v] + weight;
+        cost += cost_of(s, n, k);
+        u = v;
+        j += 1;
+    }
+    let ok = is_end(s, u);
+    Walk { ok, cost }
+}
+
+// Walks along the path of lb vertices at b, whose weight is added to the totals of the vertices and arcs on it.
+fn walk_path(
+    s: &[u8],
+    first: &[u16; Graph::MAX_VERTICES + 1],
+    t: &[u8],
+    b: usize,
+    lb: usize,
+    weight: usize,
+    vertex_totals: &mut [usize; Graph::MAX_VERTICES],
+    arc_totals: &mut [usize; Graph::MAX_ARCS],
+) -> Walk
+    requires { ⌜ Reads (now s) × ArcTable (now s) (now first) × (1 ≤ lb) × (lb ≤ 64) ⌝ }
+    requires { ⌜ (b + lb ≤ length (now t)) × Room (now s) (now «vertex_totals») (now «arc_totals») weight 128 ⌝ }
+    ensures { λ r. ⌜ PathWalked (now (s .entry)) (part (now (t .entry)) b lb) weight (now («vertex_totals» .entry)) (now («vertex_totals» .exit)) (now («arc_totals» .entry)) (now («arc_totals» .exit)) (r .ok) (r .cost) ⌝ }
+{
+    let u = wide(t[b]);
+    if wide(s[Graph::AT_VERTICES]) <= u {
+        return Walk { ok: false, cost: 0 };
+    }
+    if !is_start(s, u) {
+        return Walk { ok: false, cost: 0 };
+    }
+    vertex_totals[u] = vertex_totals[u] + weight;
+    walk_on(
+        s,
+        first,
+        t,
+        b + 1,
+        lb - 1,
+        u,
+        weight,
+        vertex_totals,
+        arc_totals,
+    )
+}
+
+// What is wrong with a path's record, so far as it can be told without the graph: 15, 16, 15, 17 or nothing.
+fn path_head_fault(t: &[u8], at: usize, copies: usize) -> usize
+    requires { ⌜ (at ≤ length (now t)) × (copies ≤ maxWeight) ⌝ }
+    ensures { λ r. ⌜ r ≡ pathHeadFault (now (t .entry)) at copies ⌝ }
+    ensures right { λ r. ⌜ (r ≡ 0 → PathHead (now (t .entry)) at copies) ⌝ }
+{
+    if t.len() - at < Answer::PATH {
+        return 15;
+    }
+    let len = wide(t[at + Answer::WEIGHT]);
+    if len == 0 {
+        return 16;
+    }
+    if Answer::MAX_PATH < len {
+        return 16;
+    }
+    if t.len() < at + Answer::PATH + len {
+        return 15;
+    }
+    let weight = be32(t, at);
+    if weight == 0 {
+        return 17;
+    }
+    if Answer::MAX_WEIGHT < copies + weight {
+        return 17;
+    }
+    0
+}
+
+// What reading one path's record gives: its fault, and where there is none the costs of the path's arcs.
+pub struct PathRecord {
+    pub fault: usize,
+    pub cost: usize,
+}
+
+// Reads the path's record at an offset: judges it, adds its weight to the totals and marks the reads that it holds.
+// The path before it has lp vertices at p. Where there is a fault the tallies are of no use any more.
+fn read_path(
+    s: &[u8],
+    first: &[u16; Graph::MAX_VERTICES + 1],
+    t: &[u8],
+    at: usize,
+    p: usize,
+    lp: usize,
+    copies: usize,
+    vertex_totals: &mut [usize; Graph::MAX_VERTICES],
+    arc_totals: &mut [usize; Graph::MAX_ARCS],
+    met: &mut [bool; Graph::MAX_READS],
+) -> PathRecord
+    requires { ⌜ Reads (now s) × ArcTable (now s) (now first) × (at ≤ length (now t)) × (p + lp ≤ length (now t)) × (copies ≤ maxWeight) ⌝ }
+    requires { ⌜ Room (now s) (now «vertex_totals») (now «arc_totals») 0 128 × (length (now met) ≡ maxReads) ⌝ }
+    ensures { λ r. ⌜ PathRead (now (s .entry)) (now (t .entry)) at (part (now (t .entry)) p lp) copies (now («vertex_totals» .entry)) (now («vertex_totals» .exit)) (now («arc_totals» .entry)) (now («arc_totals» .exit)) (now (met .entry)) (now (met .exit)) (r .fault) (r .cost) ⌝ }
+{
+    let fault = path_head_fault(t, at, copies);
+    if fault != 0 {
+        return PathRecord { fault, cost: 0 };
+    }
+    let weight = be32(t, at);
+    let lb = wide(t[at + Answer::WEIGHT]);
+    let b = at + Answer::PATH;
+    let walk = walk_path(s, first, t, b, lb, weight, vertex_totals, arc_totals);
+    if !walk.ok {
+        return PathRecord { fault: 16, cost: 0 };
+    }
+    if !comes_before(t, p, lp, b, lb) {
+        return PathRecord { fault: 18, cost: 0 };
+    }
+    mark_reads(s, t, b, lb, met);
+    PathRecord {
+        fault: 0,
+        cost: walk.cost,
+    }
+}
+
+// What reading all paths gives: the verdict, and where nothing is refused the paths' price.
+pub struct Tally {
+    pub number: usize,
+    pub place: usize,
+    pub price: usize,
+}
+
+impl Tally {
+    pub fn new(number: usize, place: usize, price: usize) -> Tally
+        ensures { λ r. ⌜ (r .number ≡ number) × (r .place ≡ place) × (r .price ≡ price) ⌝ }
+    {
+        Tally {
+            number,
+            place,
+            price,
+        }
+    }
+}
+
+// Reads the path records one after another. The totals, the reads met and the price are those of all paths where nothing is refused.
+pub fn read_paths(
+    s: &[u8],
+    first: &[u16; Graph::MAX_VERTICES + 1],
+    t: &[u8],
+    vertex_totals: &mut [usize; Graph::MAX_VERTICES],
+    arc_totals: &mut [usize; Graph::MAX_ARCS],
+    met: &mut [bool; Graph::MAX_READS],
+) -> Tally
+    requires { ⌜ Reads (now s) × ArcTable (now s) (now first) × (firstPathAt (vertexCount (now s)) ≤ length (now t)) ⌝ }
+    requires { ⌜ NothingTallied (now «vertex_totals») (now «arc_totals») (now met) ⌝ }
+    ensures { λ r. ⌜ PathsRead (now (s .entry)) (now (t .entry)) (now («vertex_totals» .exit)) (now («arc_totals» .exit)) (now (met .exit)) (r .number) (r .place) (r .price) ⌝ }
+{
+    let opening = be32(s, Graph::AT_OPENING);
+    let mut left = be16(t, Answer::AT_PATHS);
+    let mut at = Answer::HEADER + Answer::MARKS * wide(s[Graph::AT_VERTICES]);
+    let mut p = 0;
+    let mut lp = 0;
+    let mut copies = 0;
+    let mut price = 0;
+    while 0 < left {
+        let path = read_path(
+            s,
+            first,
+            t,
+            at,
+            p,
+            lp,
+            copies,
+            vertex_totals,
+            arc_totals,
+            met,
+        );
+        let fault = path.fault;
+        if fault != 0 {
+            return Tally::new(fault, at, 0);
+        }
+        let weight = be32(t, at);
+        lp = wide(t[at + Answer::WEIGHT]);
+        p = at + Answer::PATH;
+        price += weight * (opening + path.cost);
+        copies += weight;
+        at = p + lp;
+        left -= 1;
+    }
+    if at < t.len() {
+        return Tally::new(15, at, 0);
+    }
+    Tally::new(0, 0, price)
+}
