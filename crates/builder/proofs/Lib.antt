@@ -2,5 +2,8 @@
 pub mod NetworkLaws
 pub mod NetworkLawsSearch
 pub mod NetworkLawsSettle
+pub mod NetworkLawsRaise
+pub mod NetworkLawsPush
+pub mod NetworkLawsCarry
 pub mod FinishLawsSlots
 pub mod Certificate

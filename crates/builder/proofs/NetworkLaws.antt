@@ -7,6 +7,8 @@ use mathlib.Core.Path.{_≡_, refl, sym, ap, ap₂, subst, _∙_}
 use mathlib.Core.List.{List, [], _∷_}
 use mathlib.Core.Logic.{_⊎_, inl, inr, ⊎-elim, _≢_}
 use mathlib.Core.Bool.{cond}
+use mir.Syntax.{w64}
+use mir.Val.{Fits}
 use borrow.Author.Tests.{eq-eqb, ne-eqb}
 use lib.ListN.{length, getD, set, length-set}
 use lib.Seq.{getD-set-same, getD-set-other}
@@ -26,6 +28,16 @@ below-or-not a b = go (decLt a b)
     go : Dec (a < b) → (a < b) ⊎ (b ≤ a)
     go (yes p) = inl p
     go (no n) = inr (omega arith)
+
+pub positive : (n : ℕ) → (n ≡ 0 → ⊥) → 1 ≤ n
+positive n ne = ⊎-elim (λ l. omega arith) (λ g. g) (below-or-not n 1)
+
+pub none-left : (n : ℕ) → n ≤ 0 → n ≡ 0
+none-left n l = omega arith
+
+-- where an element of eight bytes stands
+pub offset-fits : (i : ℕ) → i < 129 → Fits w64 (i * 8)
+offset-fits i l = omega arith
 
 -- what stands at j after a store at i
 pub at-set : (xs : List ℕ) (i a j : ℕ) → i < length xs → ((j ≡ i) × (at (set xs i a) j ≡ a)) ⊎ ((j ≢ i) × (at (set xs i a) j ≡ at xs j))

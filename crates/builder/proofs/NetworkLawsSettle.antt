@@ -204,3 +204,37 @@ module _ (N E : ℕ) (from to cost load mark deficit : List ℕ) (source u h k c
     settled-near = λ v vn l. G .latest v vn l;
     hops = λ v vn l. G .hops v vn (let a = G .latest v vn l in let b = near-here in omega arith);
   }
+
+-- ---- the loop of the search: of the settled nodes only the last may have a deficit
+module _ (N E : ℕ) (from to cost load mark deficit : List ℕ) (source : ℕ) where
+  abbrev pub SearchWalk : ℕ → ℕ → List ℕ → List ℕ → List ℕ → Type 0
+  SearchWalk u count dist via rank =
+      Growing N E from to cost load mark source u E E count dist via rank
+      × ((v : ℕ) → v < N → at rank v < N → (v ≡ u) ⊎ (at deficit v ≡ 0))
+
+  module _ (S : Seeking N E from to cost mark deficit source) where
+    pub search-first : (dist via rank : List ℕ) → Fresh N dist via rank → SearchWalk source 1 (set dist source 0) via (set rank source 0)
+    search-first dist via rank F = (
+      begun N E from to cost load mark deficit source dist via rank S F,
+      λ v vn l. inl (only-source N E from to cost load mark deficit source dist via rank S F v vn l),
+    )
+
+    module _ (u count : ℕ) (dist via rank dist' via' : List ℕ) (r : ℕ) (w : SearchWalk u count dist via rank) (none : at deficit u ≡ 0)
+        (G : Growing N E from to cost load mark source u 0 0 count dist' via' rank) (R : Nearest N dist' rank r) where
+      done : (v : ℕ) → v < N → at rank v < N → at deficit v ≡ 0
+      done v vn l = ⊎-elim (λ s. ap (at deficit) s ∙ none) (λ o. o) (w .1 v vn l)
+
+      pub search-node : r < N
+      search-node = reached N E from to cost load mark deficit source u count dist' via' rank S r G done R
+
+      pub search-room : count < N
+      search-room = more-open N E from to cost load mark source u count dist' via' rank (S .lanes) G r R search-node
+
+      pub search-again : SearchWalk r (count + 1) dist' via' (set rank r count)
+      search-again = (
+        settled N E from to cost load mark source u count dist' via' rank (S .lanes) G r R search-node,
+        λ v vn l. ⊎-elim
+            inl
+            (λ ne. inr (done v vn (before N E from to cost load mark source u count dist' via' rank (S .lanes) G r R search-node v ne l)))
+            (same-or-not v r),
+      )

@@ -196,6 +196,116 @@ pub record Found (N E : ℕ) (from to cost load mark deficit : List ℕ) (source
   pub settled-near : (v : ℕ) → v < N → at rank v < N → at dist v ≤ at dist target
   pub hops : (v : ℕ) → v < N → at rank v < N → (v ≡ source) ⊎ Hop E from to cost load mark dist via rank v
 
+-- what raising the marks asks: each has room, and none falls below 0
+pub record Raisable (N : ℕ) (live : List Bool) (dist : List ℕ) (most : ℕ) (mark : List ℕ) : Type 0 where
+  pub few-nodes : N ≤ 129
+  pub long : length mark ≡ 129
+  pub not-far : most ≤ 1_000_000_000_000
+  pub small : (u : ℕ) → u < N → T (liveAt live u) → at mark u ≤ 4_000_000_000
+  pub room : (u : ℕ) → u < N → T (liveAt live u) → min (at dist 0) most ≤ at mark u + min (at dist u) most
+
+-- each live node's mark is raised by the lesser of its distance and `most`, less what the root is raised by
+pub record Raised (N : ℕ) (live : List Bool) (dist : List ℕ) (most : ℕ) (mark mark' : List ℕ) : Type 0 where
+  pub long : length mark' ≡ 129
+  pub raised : (u : ℕ) → u < N → T (liveAt live u) → at mark' u + min (at dist 0) most ≡ at mark u + min (at dist u) most
+
+-- v is reached by edge e, forward along slack 0, or against a load of k or more, from a node settled before it
+pub record Ahead (E : ℕ) (from to cost mark rank : List ℕ) (v e : ℕ) : Type 0 where
+  pub edge : e < E
+  pub to-here : at to e ≡ v
+  pub lower : at rank (at from e) < at rank v
+  pub tight : at mark v ≡ at cost e + at mark (at from e)
+
+pub record Behind (E : ℕ) (from to load rank : List ℕ) (k v e : ℕ) : Type 0 where
+  pub edge : e < E
+  pub from-here : at from e ≡ v
+  pub lower : at rank (at to e) < at rank v
+  pub loaded : k ≤ at load e
+
+-- one step from v towards the source
+pub data Rung (E : ℕ) (from to cost load mark via rank : List ℕ) (v : ℕ) : Type 0 where
+  ahead : (e : ℕ) → at via v ≡ 2 * e → Ahead E from to cost mark rank v e → Rung E from to cost load mark via rank v
+  behind : (e : ℕ) → at via v ≡ 2 * e + 1 → Behind E from to load rank 1 v e → Rung E from to cost load mark via rank v
+
+-- the steps from v to the source, each with room for k
+pub data Trail (E : ℕ) (from to cost load mark via rank : List ℕ) (source k : ℕ) : ℕ → Type 0 where
+  home : {v : ℕ} → v ≡ source → Trail E from to cost load mark via rank source k v
+  along : {v : ℕ} (e : ℕ) → at via v ≡ 2 * e → Ahead E from to cost mark rank v e → Trail E from to cost load mark via rank source k (at from e) →
+      Trail E from to cost load mark via rank source k v
+  against : {v : ℕ} (e : ℕ) → at via v ≡ 2 * e + 1 → Behind E from to load rank k v e → Trail E from to cost load mark via rank source k (at to e) →
+      Trail E from to cost load mark via rank source k v
+
+-- every settled node has its step towards the source
+pub record Laid (N E : ℕ) (from to cost load mark via rank : List ℕ) (source target : ℕ) : Type 0 where
+  pub few-nodes : N ≤ 129
+  pub few-edges : E ≤ 464
+  pub from-node : (e : ℕ) → e < E → at from e < N
+  pub to-node : (e : ℕ) → e < E → at to e < N
+  pub target-node : target < N
+  pub target-settled : at rank target < N
+  pub rungs : (v : ℕ) → v < N → at rank v < N → (v ≡ source) ⊎ Rung E from to cost load mark via rank v
+
+-- how much can be moved from the source to the target
+pub record Room (E : ℕ) (from to cost load mark via rank : List ℕ) (source target limit r : ℕ) : Type 0 where
+  pub some : 1 ≤ r
+  pub within : r ≤ limit
+  pub trail : Trail E from to cost load mark via rank source r target
+
+-- The amount k is being moved along the steps: it has come from v to the target, on loads that were `old`. Edges whose ends were both settled no later
+-- than v are as they were; so each node is passed once, and the root sends k at the most.
+pub record Pushing (N E : ℕ) (from to cost mark via rank : List ℕ) (source target k : ℕ) (old : List ℕ) (v : ℕ) (load : List ℕ) : Type 0 where
+  pub long : length load ≡ 464
+  pub node : v < N
+  pub trail : Trail E from to cost old mark via rank source k v
+  pub same : (e : ℕ) → e < E → at rank (at from e) ≤ at rank v → at rank (at to e) ≤ at rank v → at load e ≡ at old e
+  pub small : (e : ℕ) → e < E → at old e + k ≤ 1_000_000_000
+  pub tight : LoadsTight E from to cost mark load
+  pub most : (e : ℕ) → e < E → at load e ≤ at old e + k
+  pub moved : (u : ℕ) →
+      leaving from load E u + entering to old E u + share u target k ≡ entering to load E u + leaving from old E u + share u v k
+  pub root-not-yet : at rank 0 < at rank v → leaving from load E 0 ≤ leaving from old E 0
+  pub root-once : leaving from load E 0 ≤ leaving from old E 0 + k
+
+-- The state between two rounds: slacks hold, loads are tight, marks are near; no node has both a surplus and a deficit, a node that is not live has
+-- neither, and there is as much surplus as deficit.
+pub record Carrying (N E : ℕ) (live : List Bool) (from to cost load mark surplus deficit : List ℕ) : Type 0 where
+  pub load-long : length load ≡ 464
+  pub mark-long : length mark ≡ 129
+  pub surplus-long : length surplus ≡ 129
+  pub deficit-long : length deficit ≡ 129
+  pub slacks : SlacksHold E from to cost mark
+  pub tight : LoadsTight E from to cost mark load
+  pub near : MarksNear N live mark
+  pub apart : (u : ℕ) → u < N → 1 ≤ at surplus u → at deficit u ≡ 0
+  pub surplus-live : (u : ℕ) → u < N → 1 ≤ at surplus u → T (liveAt live u)
+  pub deficit-live : (u : ℕ) → u < N → 1 ≤ at deficit u → T (liveAt live u)
+  pub same-sum : sumTo N (λ u. at surplus u) ≡ sumTo N (λ u. at deficit u)
+  pub few : (e : ℕ) → e < E → at load e + sumTo N (λ u. at surplus u) ≤ 320_000_016
+  pub few-left : sumTo N (λ u. at surplus u) ≤ 320_000_016
+
+-- What rounds change: each node's balance is kept, and the root sends no more than the surplus that is gone.
+pub record Carries (N E : ℕ) (from to load surplus deficit load' surplus' deficit' : List ℕ) : Type 0 where
+  pub balance : (u : ℕ) → u < N →
+      leaving from load' E u + at surplus' u + (entering to load E u + at deficit u) ≡ entering to load' E u + at deficit' u + (leaving from load E u + at surplus u)
+  pub root : leaving from load' E 0 + sumTo N (λ u. at surplus' u) ≤ leaving from load E 0 + sumTo N (λ u. at surplus u)
+
+-- one source alone gives off surplus
+pub record OthersKept (source : ℕ) (surplus surplus' : List ℕ) : Type 0 where
+  pub kept : (u : ℕ) → u ≢ source → at surplus' u ≡ at surplus u
+
+-- What carrying everything asks: no load yet, every live node's mark is the base, and the surpluses and deficits are apart, on live nodes, the same in all.
+pub record Waiting (N E : ℕ) (live : List Bool) (load mark surplus deficit : List ℕ) : Type 0 where
+  pub load-long : length load ≡ 464
+  pub mark-long : length mark ≡ 129
+  pub surplus-long : length surplus ≡ 129
+  pub deficit-long : length deficit ≡ 129
+  pub no-load : (e : ℕ) → e < E → at load e ≡ 0
+  pub at-base : (u : ℕ) → u < N → T (liveAt live u) → at mark u ≡ base
+  pub apart : (u : ℕ) → u < N → (at surplus u ≡ 0) ⊎ (at deficit u ≡ 0)
+  pub dead-none : (u : ℕ) → u < N → (T (liveAt live u) → ⊥) → (at surplus u ≡ 0) × (at deficit u ≡ 0)
+  pub same-sum : sumTo N (λ u. at surplus u) ≡ sumTo N (λ u. at deficit u)
+  pub few : sumTo N (λ u. at surplus u) ≤ 320_000_016
+
 -- What carrying everything leaves: slacks hold, loads are tight, marks are near, all surplus is moved, and the root sends no more than there was to move.
 pub record Carried (N E : ℕ) (live : List Bool) (from to cost load mark : List ℕ) (given wanted : ℕ → ℕ) (moved : ℕ) : Type 0 where
   pub slacks-hold : SlacksHold E from to cost mark

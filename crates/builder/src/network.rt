@@ -1,8 +1,8 @@
 // The flow of lowest cost: what has to move is carried from nodes with a surplus to nodes with a deficit, always along the cheapest way.
 ghost use mathlib.Core.Path.{_≡_};
-ghost use Prim.Native.Nat.{ℕ, _+_, _*_, _<_, _≤_};
+ghost use Prim.Native.Nat.{ℕ, _+_, _*_, _<_, _≤_, min};
 ghost use lib.ListN.{length};
-ghost use Rattle.builder.specs.Network.{at, Chained, Keys, Cleared, Lanes, Growing, Nearest, Lowered, Seeking, Fresh, Found};
+ghost use Rattle.builder.specs.Network.{at, Chained, Keys, Cleared, Lanes, Growing, Nearest, Lowered, Seeking, Fresh, Found, Raisable, Raised, Laid, Room, Pushing, Shape, Carrying, Carries, OthersKept, Waiting, Carried, sumTo};
 
 // No edge is in a chain yet.
 fn clear(nodes: usize, head: &mut [usize; 129])
@@ -210,4 +210,272 @@ fn search(
         count += 1;
     }
     u
+}
+
+fn lesser(a: u64, b: u64) -> u64
+    ensures { λ r. ⌜ r ≡ min a b ⌝ }
+{
+    if a < b { a } else { b }
+}
+
+// Raises each live node's mark by the lesser of its distance and the target's, `most`: no slack falls below 0, and the slacks along the way found
+// become 0. What the root is raised by is taken off everywhere, so that the root's mark stays.
+fn raise(nodes: usize, live: &[bool; 129], dist: &[u64; 129], most: u64, mark: &mut [u64; 129])
+    requires { ⌜ Raisable nodes (now live) (now dist) most (now mark) ⌝ }
+    ensures { λ _. ⌜ Raised nodes (now (live .entry)) (now (dist .entry)) most (now (mark .entry)) (now (mark .exit)) ⌝ }
+{
+    let shift = lesser(dist[0], most);
+    let mut u: usize = 0;
+    while u < nodes {
+        if live[u] {
+            let more = lesser(dist[u], most);
+            mark[u] = mark[u] + more - shift;
+        }
+        u += 1;
+    }
+}
+
+// How much can be moved from the source to the target: no more than `limit`, nor than the load of any edge that is taken back.
+fn room(
+    nodes: usize,
+    edges: usize,
+    from: &[usize; 464],
+    to: &[usize; 464],
+    cost: &[u64; 464],
+    load: &[u64; 464],
+    mark: &[u64; 129],
+    via: &[usize; 129],
+    rank: &[usize; 129],
+    source: usize,
+    target: usize,
+    limit: u64,
+) -> u64
+    requires { ⌜ Laid nodes edges (now from) (now to) (now cost) (now load) (now mark) (now via) (now rank) source target ⌝ }
+    requires { ⌜ 1 ≤ limit ⌝ }
+    ensures { λ r. ⌜ Room edges (now (from .entry)) (now (to .entry)) (now (cost .entry)) (now (load .entry)) (now (mark .entry)) (now (via .entry)) (now (rank .entry)) source target limit r ⌝ }
+{
+    let mut v = target;
+    let mut most = limit;
+    while v != source {
+        let e = via[v] / 2;
+        if via[v] % 2 == 0 {
+            v = from[e];
+        } else {
+            most = lesser(most, load[e]);
+            v = to[e];
+        }
+    }
+    most
+}
+
+// Moves the amount along the way found, from the target back to the source.
+fn push(
+    nodes: usize,
+    edges: usize,
+    from: &[usize; 464],
+    to: &[usize; 464],
+    cost: &[u64; 464],
+    mark: &[u64; 129],
+    via: &[usize; 129],
+    rank: &[usize; 129],
+    source: usize,
+    target: usize,
+    amount: u64,
+    load: &mut [u64; 464],
+)
+    requires { ⌜ Laid nodes edges (now from) (now to) (now cost) (now load) (now mark) (now via) (now rank) source target ⌝ }
+    requires { ⌜ Pushing nodes edges (now from) (now to) (now cost) (now mark) (now via) (now rank) source target amount (now load) target (now load) ⌝ }
+    ensures { λ _. ⌜ Pushing nodes edges (now (from .entry)) (now (to .entry)) (now (cost .entry)) (now (mark .entry)) (now (via .entry)) (now (rank .entry)) source target amount (now (load .entry)) source (now (load .exit)) ⌝ }
+{
+    let mut v = target;
+    while v != source {
+        let e = via[v] / 2;
+        if via[v] % 2 == 0 {
+            load[e] = load[e] + amount;
+            v = from[e];
+        } else {
+            load[e] = load[e] - amount;
+            v = to[e];
+        }
+    }
+}
+
+// One round: finds the nearest deficit, raises the marks so that the way there costs nothing more, and moves as much as has room along it.
+fn round(
+    nodes: usize,
+    edges: usize,
+    live: &[bool; 129],
+    from: &[usize; 464],
+    to: &[usize; 464],
+    cost: &[u64; 464],
+    headout: &[usize; 129],
+    nextout: &[usize; 464],
+    headin: &[usize; 129],
+    nextin: &[usize; 464],
+    source: usize,
+    load: &mut [u64; 464],
+    mark: &mut [u64; 129],
+    surplus: &mut [u64; 129],
+    deficit: &mut [u64; 129],
+)
+    requires { ⌜ Shape nodes edges (now live) (now from) (now to) (now cost) ⌝ }
+    requires { ⌜ Chained nodes edges (now from) (now headout) (now nextout) ⌝ }
+    requires { ⌜ Chained nodes edges (now to) (now headin) (now nextin) ⌝ }
+    requires { ⌜ Carrying nodes edges (now live) (now from) (now to) (now cost) (now load) (now mark) (now surplus) (now deficit) ⌝ }
+    requires { ⌜ (source < nodes) × (1 ≤ at (now surplus) source) ⌝ }
+    ensures { λ _. ⌜ Carrying nodes edges (now (live .entry)) (now (from .entry)) (now (to .entry)) (now (cost .entry)) (now (load .exit)) (now (mark .exit)) (now (surplus .exit)) (now (deficit .exit)) ⌝ }
+    ensures { λ _. ⌜ Carries nodes edges (now (from .entry)) (now (to .entry)) (now (load .entry)) (now (surplus .entry)) (now (deficit .entry)) (now (load .exit)) (now (surplus .exit)) (now (deficit .exit)) ⌝ }
+    ensures { λ _. ⌜ OthersKept source (now (surplus .entry)) (now (surplus .exit)) ⌝ }
+    ensures { λ _. ⌜ at (now (surplus .exit)) source < at (now (surplus .entry)) source ⌝ }
+{
+    let mut dist = [FAR; 129];
+    let mut via = [0usize; 129];
+    let mut rank = [nodes; 129];
+    let target = search(
+        nodes,
+        edges,
+        from,
+        to,
+        cost,
+        load,
+        mark,
+        headout,
+        nextout,
+        headin,
+        nextin,
+        deficit,
+        source,
+        &mut dist,
+        &mut via,
+        &mut rank,
+    );
+    let most = dist[target];
+    raise(nodes, live, &dist, most, mark);
+    let limit = lesser(surplus[source], deficit[target]);
+    let amount = room(
+        nodes,
+        edges,
+        from,
+        to,
+        cost,
+        load,
+        mark,
+        &via,
+        &rank,
+        source,
+        target,
+        limit,
+    );
+    push(
+        nodes,
+        edges,
+        from,
+        to,
+        cost,
+        mark,
+        &via,
+        &rank,
+        source,
+        target,
+        amount,
+        load,
+    );
+    surplus[source] = surplus[source] - amount;
+    deficit[target] = deficit[target] - amount;
+}
+
+// Moves all the surplus of one node.
+fn carry_from(
+    nodes: usize,
+    edges: usize,
+    live: &[bool; 129],
+    from: &[usize; 464],
+    to: &[usize; 464],
+    cost: &[u64; 464],
+    headout: &[usize; 129],
+    nextout: &[usize; 464],
+    headin: &[usize; 129],
+    nextin: &[usize; 464],
+    source: usize,
+    load: &mut [u64; 464],
+    mark: &mut [u64; 129],
+    surplus: &mut [u64; 129],
+    deficit: &mut [u64; 129],
+)
+    requires { ⌜ Shape nodes edges (now live) (now from) (now to) (now cost) ⌝ }
+    requires { ⌜ Chained nodes edges (now from) (now headout) (now nextout) ⌝ }
+    requires { ⌜ Chained nodes edges (now to) (now headin) (now nextin) ⌝ }
+    requires { ⌜ Carrying nodes edges (now live) (now from) (now to) (now cost) (now load) (now mark) (now surplus) (now deficit) ⌝ }
+    requires { ⌜ source < nodes ⌝ }
+    ensures { λ _. ⌜ Carrying nodes edges (now (live .entry)) (now (from .entry)) (now (to .entry)) (now (cost .entry)) (now (load .exit)) (now (mark .exit)) (now (surplus .exit)) (now (deficit .exit)) ⌝ }
+    ensures { λ _. ⌜ Carries nodes edges (now (from .entry)) (now (to .entry)) (now (load .entry)) (now (surplus .entry)) (now (deficit .entry)) (now (load .exit)) (now (surplus .exit)) (now (deficit .exit)) ⌝ }
+    ensures { λ _. ⌜ OthersKept source (now (surplus .entry)) (now (surplus .exit)) ⌝ }
+    ensures { λ _. ⌜ at (now (surplus .exit)) source ≡ 0 ⌝ }
+{
+    while surplus[source] > 0 {
+        round(
+            nodes,
+            edges,
+            live,
+            from,
+            to,
+            cost,
+            headout,
+            nextout,
+            headin,
+            nextin,
+            source,
+            load,
+            mark,
+            surplus,
+            deficit,
+        );
+    }
+}
+
+// Moves every surplus to the deficits, at the lowest cost: no slack is below 0, and every edge that carries a load has slack 0.
+pub fn carry_all(
+    nodes: usize,
+    edges: usize,
+    live: &[bool; 129],
+    from: &[usize; 464],
+    to: &[usize; 464],
+    cost: &[u64; 464],
+    headout: &[usize; 129],
+    nextout: &[usize; 464],
+    headin: &[usize; 129],
+    nextin: &[usize; 464],
+    load: &mut [u64; 464],
+    mark: &mut [u64; 129],
+    surplus: &mut [u64; 129],
+    deficit: &mut [u64; 129],
+)
+    requires { ⌜ Shape nodes edges (now live) (now from) (now to) (now cost) ⌝ }
+    requires { ⌜ Chained nodes edges (now from) (now headout) (now nextout) ⌝ }
+    requires { ⌜ Chained nodes edges (now to) (now headin) (now nextin) ⌝ }
+    requires { ⌜ Waiting nodes edges (now live) (now load) (now mark) (now surplus) (now deficit) ⌝ }
+    ensures { λ _. ⌜ ((given wanted : ℕ → ℕ) → ((u : ℕ) → u < nodes → at (now (surplus .entry)) u + wanted u ≡ at (now (deficit .entry)) u + given u) → Carried nodes edges (now (live .entry)) (now (from .entry)) (now (to .entry)) (now (cost .entry)) (now (load .exit)) (now (mark .exit)) given wanted (sumTo nodes (λ u. at (now (surplus .entry)) u))) ⌝ }
+    ensures { λ _. ⌜ (length (now (load .exit)) ≡ 464) × (length (now (mark .exit)) ≡ 129) ⌝ }
+{
+    let mut u: usize = 0;
+    while u < nodes {
+        carry_from(
+            nodes,
+            edges,
+            live,
+            from,
+            to,
+            cost,
+            headout,
+            nextout,
+            headin,
+            nextin,
+            u,
+            load,
+            mark,
+            surplus,
+            deficit,
+        );
+        u += 1;
+    }
 }
