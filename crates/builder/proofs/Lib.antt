@@ -5,5 +5,6 @@ pub mod NetworkLawsSettle
 pub mod NetworkLawsRaise
 pub mod NetworkLawsPush
 pub mod NetworkLawsCarry
+pub mod FinishLaws
 pub mod FinishLawsSlots
 pub mod Certificate

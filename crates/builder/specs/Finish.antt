@@ -5,7 +5,7 @@ use mathlib.Core.Path.{_≡_}
 use mathlib.Core.List.{List, [], _∷_, _++_}
 use lib.Dec.{T}
 use lib.IntN.{ℤ, subℕ}
-use lib.ListN.{length, take, drop}
+use lib.ListN.{length, getD, take, drop}
 use Rattle.mathematics.specs.Bound.{readsThrough, Marks}
 use Rattle.mathematics.specs.Cover.{Item, arc}
 use Rattle.mathematics.specs.Reach.{useful}
@@ -62,3 +62,17 @@ finalMarks s mark = heldMarks (heldMark s inNode mark) (heldMark s outNode mark)
 pub record Placed (before : List ℕ) (place : ℕ) (bytes after : List ℕ) : Type 0 where
   pub room : place + length bytes ≤ length before
   pub is : after ≡ take place before ++ (bytes ++ drop (place + length bytes) before)
+
+-- the marks of n vertices, held with `base` added, can be written: none is above twice the base
+pub record Writable (n : ℕ) (into out : List ℕ) : Type 0 where
+  pub few : n ≤ 64
+  pub into-low : (v : ℕ) → v < n → at into v ≤ 4_000_000_000
+  pub out-low : (v : ℕ) → v < n → at out v ≤ 4_000_000_000
+
+-- the rows of a table of collected paths fit an answer form's fields
+pub record PathsFit (rows : List (List ℕ)) (lens weights : List ℕ) (count : ℕ) : Type 0 where
+  pub few : count ≤ 464
+  pub tall : length rows ≡ 464
+  pub wide : (k : ℕ) → k < count → length (getD rows k []) ≡ 64
+  pub short : (k : ℕ) → k < count → at lens k ≤ 64
+  pub light : (k : ℕ) → k < count → at weights k < 4_294_967_296

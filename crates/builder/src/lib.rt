@@ -9,3 +9,6 @@ pub struct Built {
 
 // A bare network and the flow of lowest cost in it: it knows nothing of graphs and reads.
 mod network;
+
+// What a build ends with: marks, price, and the answer form in the output.
+mod finish;
