@@ -1,15 +1,15 @@
 -- Laws of carrying: what a round asks and what it changes, rounds after one another, and what is left when all surplus is gone.
-use Prim.Native.Nat.{ℕ, zero, suc, _+_, _*_, _-_, _≤_, _<_, min}
+use Prim.Native.Nat.{ℕ, _+_, _-_, _≤_, _<_, min}
 use native.Mathlib.Omega.{arith}
-use mathlib.Core.Path.{_≡_, refl, sym, ap, subst, _∙_}
-use mathlib.Core.List.{List, [], _∷_}
+use mathlib.Core.Path.{_≡_, refl, ap, _∙_}
+use mathlib.Core.List.{List}
 use mathlib.Core.Bool.{Bool, true, false}
-use mathlib.Core.Logic.{_⊎_, inl, inr, ⊎-elim, _≢_}
+use mathlib.Core.Logic.{_⊎_, inl, inr, ⊎-elim}
 use lib.Dec.{T}
-use lib.ListN.{length, getD, set, length-set, replicate, length-replicate, getD-replicate}
-use lib.Seq.{getD-set-same, getD-set-other}
-use Rattle.builder.specs.Network.{at, liveAt, sumTo, share, leaving, entering, Shape, SlacksHold, LoadsTight, MarksNear, Lanes, Seeking, Fresh, Found, Raised, Raisable, Laid, Room, Pushing, Carrying, Carries, OthersKept, Waiting, Carried, base, reach, far}
-use Rattle.builder.proofs.NetworkLaws.{same-or-not, below-or-not, positive, at-set, sum-change, sum-none, sum-term, sum-some, share-same, share-other, share-most}
+use lib.ListN.{set, length-set, replicate, length-replicate, getD-replicate}
+use lib.Seq.{getD-set-other}
+use Rattle.builder.specs.Network.{at, liveAt, sumTo, share, leaving, entering, Shape, LoadsTight, Lanes, Seeking, Fresh, Found, Raised, Raisable, Laid, Room, Pushing, Carrying, Carries, OthersKept, Waiting, Carried, far}
+use Rattle.builder.proofs.NetworkLaws.{same-or-not, at-set, sum-change, sum-none, sum-term, sum-some, share-same, share-other, share-most}
 use Rattle.builder.proofs.NetworkLawsRaise.{raised-slacks, raised-near, raised-loads, raisable, laid}
 use Rattle.builder.proofs.NetworkLawsPush.{push-first}
 
@@ -87,12 +87,6 @@ module _ (N E : ℕ) (live : List Bool) (from to cost load mark surplus deficit 
                 (λ e l. let a = C .few e l in let b = sum-term N source (λ u. at surplus u) sn in let c = round-less .0 in omega arith)
 
             module _ (load' : List ℕ) (U : Pushing N E from to cost mark' via rank source target k load source load') where
-              abbrev surplus' : List ℕ
-              surplus' = set surplus source (at surplus source - k)
-
-              abbrev deficit' : List ℕ
-              deficit' = set deficit target (at deficit target - k)
-
               taken : (u : ℕ) → at (set surplus source (at surplus source - k)) u + share u source k ≡ at surplus u
               taken u =
                   let f = round-less .0 in

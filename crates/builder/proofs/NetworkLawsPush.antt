@@ -1,13 +1,13 @@
 -- Laws of moving an amount along the steps from the target back to the source: how much has room, and what one step changes.
-use Prim.Native.Nat.{ℕ, zero, suc, _+_, _*_, _-_, _/_, _%_, _≤_, _<_, min}
+use Prim.Native.Nat.{ℕ, _+_, _*_, _-_, _/_, _%_, _≤_, _<_, min}
 use native.Mathlib.Omega.{arith}
 use mathlib.Core.Path.{_≡_, refl, sym, ap, subst, _∙_}
-use mathlib.Core.List.{List, [], _∷_}
-use mathlib.Core.Logic.{_⊎_, inl, inr, ⊎-elim, _≢_}
-use lib.ListN.{length, getD, set, length-set}
+use mathlib.Core.List.{List}
+use mathlib.Core.Logic.{⊎-elim, _≢_}
+use lib.ListN.{length, set, length-set}
 use lib.Seq.{getD-set-same, getD-set-other}
-use Rattle.builder.specs.Network.{at, sumTo, share, leaving, entering, LoadsTight, Ahead, Behind, Rung, ahead, behind, Trail, home, along, against, Laid, Room, Pushing}
-use Rattle.builder.proofs.NetworkLaws.{same-or-not, below-or-not, at-set, sum-change, share-same, share-other}
+use Rattle.builder.specs.Network.{at, share, leaving, entering, LoadsTight, Ahead, Behind, Rung, ahead, behind, Trail, home, along, against, Laid, Room, Pushing}
+use Rattle.builder.proofs.NetworkLaws.{same-or-not, at-set, sum-change, share-same, share-other}
 
 -- ---- which way a step goes is told by the last bit of `via`
 module _ (E : ℕ) (from to cost load mark via rank : List ℕ) (v : ℕ) where

@@ -1,15 +1,15 @@
 -- Laws of raising the marks: a turn of the loop, and that the raised marks keep every slack, keep loads tight, stay near and make the hops tight.
-use Prim.Native.Nat.{ℕ, zero, suc, _+_, _*_, _-_, _≤_, _<_, min}
+use Prim.Native.Nat.{ℕ, _+_, _-_, _≤_, _<_, min}
 use native.Mathlib.Omega.{arith}
 use mathlib.Core.Path.{_≡_, refl, sym, ap, subst, _∙_}
-use mathlib.Core.List.{List, [], _∷_}
+use mathlib.Core.List.{List}
 use mathlib.Core.Bool.{Bool, true, false}
-use mathlib.Core.Logic.{_⊎_, inl, inr, ⊎-elim, _≢_}
+use mathlib.Core.Logic.{inl, inr, ⊎-elim}
 use lib.Dec.{T}
-use lib.ListN.{length, getD, set, length-set}
-use lib.Seq.{getD-set-same, getD-set-other}
-use Rattle.builder.specs.Network.{at, liveAt, Shape, SlacksHold, LoadsTight, MarksNear, Hop, forward, back, Found, Way, stop, step, base, reach, Raisable, Raised, Ahead, Behind, Rung, ahead, behind, Laid}
-use Rattle.builder.proofs.NetworkLaws.{same-or-not, below-or-not, at-set}
+use lib.ListN.{length, set, length-set}
+use lib.Seq.{getD-set-other}
+use Rattle.builder.specs.Network.{at, liveAt, Shape, SlacksHold, LoadsTight, MarksNear, Hop, forward, back, Found, Way, stop, step, reach, Raisable, Raised, Rung, ahead, behind, Laid}
+use Rattle.builder.proofs.NetworkLaws.{below-or-not, at-set}
 
 pub is-live : (b : Bool) → b ≡ true → T b
 is-live b e = subst T (sym e) tt

@@ -1,12 +1,12 @@
 -- Laws of the search over plain lists: the scan for the nearest node, a distance taken, an edge passed, a node settled, and what is found.
-use Prim.Native.Nat.{ℕ, zero, suc, _+_, _*_, _-_, _≤_, _<_, min}
+use Prim.Native.Nat.{ℕ, _+_, _*_, _-_, _≤_, _<_}
 use native.Mathlib.Omega.{arith}
 use mathlib.Core.Path.{_≡_, refl, sym, ap, subst, _∙_}
-use mathlib.Core.List.{List, [], _∷_}
+use mathlib.Core.List.{List}
 use mathlib.Core.Logic.{_⊎_, inl, inr, ⊎-elim, _≢_}
-use lib.ListN.{length, getD, set, length-set}
+use lib.ListN.{set, length-set}
 use lib.Seq.{getD-set-same, getD-set-other}
-use Rattle.builder.specs.Network.{at, sumTo, share, Chained, SlacksHold, Lanes, Growing, Nearest, Lowered, nearer, kept, Hop, forward, back, Found, Way, stop, step, far, widest}
+use Rattle.builder.specs.Network.{at, Chained, Lanes, Growing, Nearest, Lowered, nearer, kept, Hop, forward, back, far, widest}
 use Rattle.builder.proofs.NetworkLaws.{same-or-not, below-or-not, at-set}
 
 -- ---- the scan for the nearest node, after v nodes

@@ -1,12 +1,12 @@
 -- Laws of the search as a whole: how it begins, that a node with a deficit is always reached, the next node settled, and what is found.
-use Prim.Native.Nat.{ℕ, zero, suc, _+_, _*_, _-_, _≤_, _<_, min}
+use Prim.Native.Nat.{ℕ, _+_, _≤_, _<_}
 use native.Mathlib.Omega.{arith}
-use mathlib.Core.Path.{_≡_, refl, sym, ap, subst, _∙_}
-use mathlib.Core.List.{List, [], _∷_}
+use mathlib.Core.Path.{_≡_, sym, ap, _∙_}
+use mathlib.Core.List.{List}
 use mathlib.Core.Logic.{_⊎_, inl, inr, ⊎-elim, _≢_}
-use lib.ListN.{length, getD, set, length-set}
+use lib.ListN.{set, length-set}
 use lib.Seq.{getD-set-same, getD-set-other}
-use Rattle.builder.specs.Network.{at, sumTo, share, Lanes, Growing, Nearest, Seeking, Fresh, Hop, forward, back, Found, Way, stop, step, far, widest}
+use Rattle.builder.specs.Network.{at, sumTo, share, Lanes, Growing, Nearest, Seeking, Fresh, Hop, forward, back, Found, Way, stop, step, far}
 use Rattle.builder.proofs.NetworkLaws.{same-or-not, below-or-not, at-set, sum-change, sum-ones, sum-term, share-same, share-other}
 use Rattle.builder.proofs.NetworkLawsSearch.{here-far}
 

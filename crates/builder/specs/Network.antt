@@ -1,9 +1,9 @@
 -- The working network of the builder, as its arrays hold it: nodes 0..N-1, node 0 the root; edges 0..E-1, each with the node it comes from, the node
 -- it goes to and a cost; on each edge a load; on each node a mark. Private functions cite these; no public promise does.
-use Prim.Native.Nat.{ℕ, zero, suc, _+_, _*_, _-_, _≤_, _<_, min}
+use Prim.Native.Nat.{ℕ, zero, suc, _+_, _*_, _≤_, _<_, min}
 use mathlib.Core.Path.{_≡_}
 use mathlib.Core.List.{List}
-use mathlib.Core.Bool.{Bool, true, false, cond}
+use mathlib.Core.Bool.{Bool, false, cond}
 use mathlib.Core.Logic.{_⊎_, _≢_}
 use lib.Dec.{T, eqb}
 use lib.ListN.{length, getD, set}
@@ -93,11 +93,6 @@ pub record MarksNear (N : ℕ) (live : List Bool) (mark : List ℕ) : Type 0 whe
   pub at-root : at mark 0 ≡ base
   pub not-above : (u : ℕ) → u < N → T (liveAt live u) → at mark u ≤ base + reach
   pub not-below : (u : ℕ) → u < N → T (liveAt live u) → base ≤ at mark u + reach
-
--- what is still to be moved: surplus that has to leave a node, deficit that has to come in. With `given` and `wanted` what there was to move at first.
-abbrev pub Balanced : ℕ → ℕ → List ℕ → List ℕ → List ℕ → (ℕ → ℕ) → (ℕ → ℕ) → List ℕ → List ℕ → Type 0
-Balanced N E from to load given wanted surplus deficit =
-    (u : ℕ) → u < N → leaving from load E u + at surplus u + wanted u ≡ entering to load E u + at deficit u + given u
 
 -- How the node v was reached from a node settled before it (`rank`): by edge e, taken forward (`via` is 2e) or taken back against its load (2e + 1).
 pub data Hop (E : ℕ) (from to cost load mark dist via rank : List ℕ) (v : ℕ) : Type 0 where

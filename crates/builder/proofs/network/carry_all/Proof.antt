@@ -1,6 +1,6 @@
 -- `builder::network::carry_all` meets its contract. The loop's invariant: the state between rounds, what changed since the start, and that the first u
 -- nodes have no surplus. When no node has one, no node has a deficit either, for the sums are the same. Assumes nothing.
-use Prim.Native.Nat.{ℕ, _+_, _≤_, _<_, _-_}
+use Prim.Native.Nat.{_≤_, _-_}
 use native.Mathlib.Omega.{arith}
 use Rattle.builder.specs.Network.{Carrying, Carries}
 use Rattle.builder.proofs.NetworkLawsCarry.{carries-none, carries-more, Gone, gone-none, gone-more, waiting-carries, all-carried}

@@ -1,18 +1,11 @@
--- `builder::network::carry_from` meets its contract. Assumes nothing.
-use Prim.Native.Nat.{ℕ, _+_, _*_, _≤_, _<_, _-_}
-use mathlib.Core.Path.{_≡_, refl, sym, ap, _∙_}
-use mathlib.Core.Logic.{_⊎_, inl, inr, ⊎-elim}
+-- `builder::network::carry_from` meets its contract. The loop's invariant: the state between rounds, and what changed since the start; the measure is the
+-- source's surplus. Assumes nothing.
 use native.Mathlib.Omega.{arith}
-use borrow.Author.Needs.{needs}
-use lib.ListN.{length, length-set}
 use Rattle.builder.specs.Network.{at, Carrying, Carries, OthersKept}
 use Rattle.builder.proofs.NetworkLaws.{none-left}
 use Rattle.builder.proofs.NetworkLawsCarry.{carries-none, carries-more, others-none, others-more}
 use Rattle.builder.proofs.network.carry_from.Statement.{statement}
 use Rattle.builder.proofs.network.carry_from.Tie as tie
-use Rattle.builder.proofs.network.carry_from.Reads as reads
-use Rattle.builder.proofs.network.carry_from.Lts as lts
-use Rattle.builder.proofs.network.round.Reads as round-reads
 
 abbrev Inv-loop : tie.InvT-loop
 Inv-loop nodes edges live from to cost headout nextout headin nextin source load₀ mark₀ surplus₀ deficit₀ load mark surplus deficit =

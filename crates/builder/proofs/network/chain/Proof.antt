@@ -1,7 +1,6 @@
--- `builder::network::chain` meets its contract. Assumes nothing.
-use Prim.Native.Nat.{ℕ, _+_, _*_, _≤_, _<_, _-_}
+-- `builder::network::chain` meets its contract. The loop's invariant: the first e edges are chained. Assumes nothing.
+use Prim.Native.Nat.{_≤_, _<_, _-_}
 use mathlib.Core.Path.{_≡_}
-use mathlib.Core.Logic.{_⊎_, inl, inr, ⊎-elim}
 use native.Mathlib.Omega.{arith}
 use borrow.Author.Needs.{needs}
 use lib.ListN.{length, length-set}
@@ -9,9 +8,6 @@ use Rattle.builder.specs.Network.{at, Chained}
 use Rattle.builder.proofs.NetworkLaws.{chain-none, chain-more}
 use Rattle.builder.proofs.network.chain.Statement.{statement}
 use Rattle.builder.proofs.network.chain.Tie as tie
-use Rattle.builder.proofs.network.chain.Reads as reads
-use Rattle.builder.proofs.network.chain.Lts as lts
-use Rattle.builder.proofs.network.clear.Reads as clear-reads
 
 abbrev Inv-loop : tie.InvT-loop
 Inv-loop nodes edges key head₀ next₀ e₀ head next e =

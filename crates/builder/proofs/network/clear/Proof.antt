@@ -1,10 +1,8 @@
 -- `builder::network::clear` meets its contract. The loop's invariant: the first u are cleared, and there are still 129. Assumes nothing.
-use Prim.Native.Nat.{ℕ, _≤_, _<_, _-_}
-use mathlib.Core.Path.{_≡_}
+use Prim.Native.Nat.{_≤_, _-_}
 use native.Mathlib.Omega.{arith}
 use borrow.Author.Needs.{needs}
-use lib.ListN.{length, length-set}
-use Rattle.builder.specs.Network.{at, Cleared}
+use Rattle.builder.specs.Network.{Cleared}
 use Rattle.builder.proofs.NetworkLaws.{cleared-more}
 use Rattle.builder.proofs.network.clear.Statement.{statement}
 use Rattle.builder.proofs.network.clear.Tie as tie

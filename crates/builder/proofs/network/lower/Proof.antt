@@ -1,16 +1,10 @@
--- `builder::network::lower` meets its contract. Assumes nothing.
-use Prim.Native.Nat.{ℕ, _+_, _*_, _≤_, _<_, _-_}
-use mathlib.Core.Path.{_≡_, refl, sym, ap, _∙_}
-use mathlib.Core.Logic.{_⊎_, inl, inr, ⊎-elim}
-use native.Mathlib.Omega.{arith}
+-- `builder::network::lower` meets its contract: both ways are constructors of what it ensures. Assumes nothing.
+use mathlib.Core.Path.{refl}
 use borrow.Author.Needs.{needs}
-use lib.ListN.{length, length-set}
 use Rattle.builder.specs.Network.{nearer, kept}
 use borrow.Author.Needs.{needs}
 use Rattle.builder.proofs.network.lower.Statement.{statement}
 use Rattle.builder.proofs.network.lower.Tie as tie
-use Rattle.builder.proofs.network.lower.Reads as reads
-use Rattle.builder.proofs.network.lower.Lts as lts
 
 mul-if1 : tie.Need-mul-if1
 mul-if1 c = search needs

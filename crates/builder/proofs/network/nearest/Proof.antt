@@ -1,16 +1,10 @@
--- `builder::network::nearest` meets its contract. Assumes nothing.
-use Prim.Native.Nat.{ℕ, _+_, _*_, _≤_, _<_, _-_}
-use mathlib.Core.Path.{_≡_, refl, sym, ap, _∙_}
-use mathlib.Core.Logic.{_⊎_, inl, inr, ⊎-elim}
+-- `builder::network::nearest` meets its contract. The loop's invariant: the best of the first v nodes. Assumes nothing.
+use Prim.Native.Nat.{_≤_, _-_}
+use mathlib.Core.Logic.{⊎-elim}
 use native.Mathlib.Omega.{arith}
-use borrow.Author.Needs.{needs}
-use lib.ListN.{length, length-set}
-use Rattle.builder.specs.Network.{at}
 use Rattle.builder.proofs.NetworkLawsSearch.{Scanned, scan-none, scan-taken, scan-passed, scan-all}
 use Rattle.builder.proofs.network.nearest.Statement.{statement}
 use Rattle.builder.proofs.network.nearest.Tie as tie
-use Rattle.builder.proofs.network.nearest.Reads as reads
-use Rattle.builder.proofs.network.nearest.Lts as lts
 
 abbrev Inv-loop : tie.InvT-loop
 Inv-loop nodes dist rank best₀ least₀ v₀ best least v = (v ≤ nodes) × Scanned nodes v dist rank best least

@@ -1,16 +1,11 @@
--- `builder::network::push` meets its contract. Assumes nothing.
-use Prim.Native.Nat.{ℕ, _+_, _*_, _≤_, _<_, _-_, _/_}
-use mathlib.Core.Path.{_≡_, refl, sym, ap, _∙_}
-use mathlib.Core.Logic.{_⊎_, inl, inr, ⊎-elim}
+-- `builder::network::push` meets its contract. The loop's invariant: the amount has come from v to the target; the measure is v's rank. Assumes nothing.
+use Prim.Native.Nat.{_≤_, _<_, _/_}
+use mathlib.Core.Path.{_≡_}
 use native.Mathlib.Omega.{arith}
-use borrow.Author.Needs.{needs}
-use lib.ListN.{length, length-set}
 use Rattle.builder.specs.Network.{at, Pushing}
 use Rattle.builder.proofs.NetworkLawsPush.{push-edge, push-fits, push-falls, push-along, push-fits-back, push-falls-back, push-against}
 use Rattle.builder.proofs.network.push.Statement.{statement}
 use Rattle.builder.proofs.network.push.Tie as tie
-use Rattle.builder.proofs.network.push.Reads as reads
-use Rattle.builder.proofs.network.push.Lts as lts
 
 abbrev Inv-loop : tie.InvT-loop
 Inv-loop nodes edges from to cost mark via rank source target amount load₀ v₀ load v =

@@ -1,17 +1,13 @@
--- `builder::network::raise` meets its contract. Assumes nothing.
-use Prim.Native.Nat.{ℕ, _+_, _*_, _≤_, _<_, _-_, min}
-use mathlib.Core.Path.{_≡_, refl, sym, ap, _∙_}
-use mathlib.Core.Logic.{_⊎_, inl, inr, ⊎-elim}
+-- `builder::network::raise` meets its contract. The loop's invariant: the first u nodes are raised, the others are as they were. Assumes nothing.
+use Prim.Native.Nat.{_+_, _≤_, _-_, min}
+use mathlib.Core.Path.{_≡_}
+use mathlib.Core.Logic.{⊎-elim}
 use native.Mathlib.Omega.{arith}
 use borrow.Author.Needs.{needs}
-use lib.ListN.{length, length-set}
 use Rattle.builder.specs.Network.{at}
 use Rattle.builder.proofs.NetworkLawsRaise.{Raising, raise-none, raise-all, raise-fits, raise-one, raise-skip, is-live, is-dead}
 use Rattle.builder.proofs.network.raise.Statement.{statement}
 use Rattle.builder.proofs.network.raise.Tie as tie
-use Rattle.builder.proofs.network.raise.Reads as reads
-use Rattle.builder.proofs.network.raise.Lts as lts
-use Rattle.builder.proofs.network.lesser.Reads as lesser-reads
 
 abbrev Inv-loop : tie.InvT-loop
 Inv-loop nodes live dist most mark₀ shift u₀ mark u =

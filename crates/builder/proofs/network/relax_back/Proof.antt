@@ -1,17 +1,13 @@
--- `builder::network::relax_back` meets its contract. Assumes nothing.
-use Prim.Native.Nat.{ℕ, _+_, _*_, _≤_, _<_, _-_}
-use mathlib.Core.Path.{_≡_, refl, sym, ap, _∙_}
-use mathlib.Core.Logic.{_⊎_, inl, inr, ⊎-elim}
+-- `builder::network::relax_back` meets its contract. The loop's invariant: the edges into u with a number of h or more are looked at; the measure is h.
+-- Assumes nothing.
+use Prim.Native.Nat.{_<_, _-_}
+use mathlib.Core.Path.{_≡_, refl}
+use mathlib.Core.Logic.{⊎-elim}
 use native.Mathlib.Omega.{arith}
-use borrow.Author.Needs.{needs}
-use lib.ListN.{length, length-set}
 use Rattle.builder.specs.Network.{at}
 use Rattle.builder.proofs.NetworkLawsSearch.{BackWalk, back-first, back-safe, back-again, back-skipped}
 use Rattle.builder.proofs.network.relax_back.Statement.{statement}
 use Rattle.builder.proofs.network.relax_back.Tie as tie
-use Rattle.builder.proofs.network.relax_back.Reads as reads
-use Rattle.builder.proofs.network.relax_back.Lts as lts
-use Rattle.builder.proofs.network.lower.Reads as lower-reads
 
 abbrev Inv-loop : tie.InvT-loop
 Inv-loop nodes edges from to cost load mark head next source u count dist₀ via₀ rank here h₀ dist via h =

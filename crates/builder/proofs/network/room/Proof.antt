@@ -1,17 +1,12 @@
--- `builder::network::room` meets its contract. Assumes nothing.
-use Prim.Native.Nat.{ℕ, _+_, _*_, _≤_, _<_, _-_, _/_}
-use mathlib.Core.Path.{_≡_, refl, sym, ap, _∙_}
-use mathlib.Core.Logic.{_⊎_, inl, inr, ⊎-elim}
+-- `builder::network::room` meets its contract. The loop's invariant: what has room from v on has room from the target on; the measure is v's rank.
+-- Assumes nothing.
+use Prim.Native.Nat.{_≤_, _<_, _/_}
 use native.Mathlib.Omega.{arith}
 use borrow.Author.Needs.{needs}
-use lib.ListN.{length, length-set}
 use Rattle.builder.specs.Network.{at}
 use Rattle.builder.proofs.NetworkLawsPush.{Walked, room-first, room-last, room-edge, room-falls, room-along, room-falls-back, room-against}
 use Rattle.builder.proofs.network.room.Statement.{statement}
 use Rattle.builder.proofs.network.room.Tie as tie
-use Rattle.builder.proofs.network.room.Reads as reads
-use Rattle.builder.proofs.network.room.Lts as lts
-use Rattle.builder.proofs.network.lesser.Reads as lesser-reads
 
 abbrev Inv-loop : tie.InvT-loop
 Inv-loop nodes edges from to cost load mark via rank source target limit v₀ most₀ v most =

@@ -1,9 +1,5 @@
--- `builder::network::round` meets its contract. Assumes nothing.
-use Prim.Native.Nat.{ℕ, _+_, _*_, _≤_, _<_, _-_}
-use mathlib.Core.Path.{_≡_, refl, sym, ap, _∙_}
-use mathlib.Core.Logic.{_⊎_, inl, inr, ⊎-elim}
-use native.Mathlib.Omega.{arith}
-use lib.ListN.{length, length-set}
+-- `builder::network::round` meets its contract: the laws of the search, of the marks and of the move, one after the other. Assumes nothing.
+use Prim.Native.Nat.{_≤_, _<_}
 use Rattle.builder.specs.Network.{at}
 use Rattle.builder.proofs.NetworkLaws.{offset-fits}
 use Rattle.builder.proofs.NetworkLawsCarry.{fresh, seeking, round-raises, round-laid, limit-some, round-pushes, round-less, round-state, round-step, round-others, round-falls}
@@ -11,13 +7,6 @@ use native.Mathlib.Nat.{lt-of-lt-of-le}
 use borrow.Author.Needs.{needs}
 use Rattle.builder.proofs.network.round.Statement.{statement}
 use Rattle.builder.proofs.network.round.Tie as tie
-use Rattle.builder.proofs.network.round.Reads as reads
-use Rattle.builder.proofs.network.round.Lts as lts
-use Rattle.builder.proofs.network.lesser.Reads as lesser-reads
-use Rattle.builder.proofs.network.push.Reads as push-reads
-use Rattle.builder.proofs.network.raise.Reads as raise-reads
-use Rattle.builder.proofs.network.room.Reads as room-reads
-use Rattle.builder.proofs.network.search.Reads as search-reads
 
 search-requires : tie.Need-search-requires
 search-requires c κs = let p = c .before .before .before .before .before .before .pre in let q = p .1 .1 .1 .1 in

@@ -1,20 +1,11 @@
--- `builder::network::search` meets its contract. Assumes nothing.
-use Prim.Native.Nat.{ℕ, _+_, _*_, _≤_, _<_, _-_}
-use mathlib.Core.Path.{_≡_, refl, sym, ap, _∙_}
-use mathlib.Core.Logic.{_⊎_, inl, inr, ⊎-elim}
+-- `builder::network::search` meets its contract. The loop's invariant: u is settled last, and no node settled before it has a deficit; the measure is how
+-- many are not settled. That a node is always found: what is reached is closed under edges. Assumes nothing.
+use Prim.Native.Nat.{_≤_, _<_, _-_}
 use native.Mathlib.Omega.{arith}
-use borrow.Author.Needs.{needs}
-use lib.ListN.{length, length-set}
-use Rattle.builder.specs.Network.{at}
 use Rattle.builder.proofs.NetworkLawsSettle.{SearchWalk, search-first, search-node, search-room, search-again, found}
 use Rattle.builder.proofs.NetworkLaws.{positive}
 use Rattle.builder.proofs.network.search.Statement.{statement}
 use Rattle.builder.proofs.network.search.Tie as tie
-use Rattle.builder.proofs.network.search.Reads as reads
-use Rattle.builder.proofs.network.search.Lts as lts
-use Rattle.builder.proofs.network.nearest.Reads as nearest-reads
-use Rattle.builder.proofs.network.relax_back.Reads as relax-back-reads
-use Rattle.builder.proofs.network.relax_out.Reads as relax-out-reads
 
 abbrev Inv-loop : tie.InvT-loop
 Inv-loop nodes edges from to cost load mark headout nextout headin nextin deficit source dist₀ via₀ rank₀ u₀ count₀ dist via rank u count =
