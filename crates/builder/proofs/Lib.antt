@@ -1,2 +1,6 @@
 -- Laws that the proofs of functions cite.
 pub mod SetupLaws
+-- The laws that the builder's proofs cite.
+pub mod NetworkLaws
+pub mod NetworkLawsSearch
+pub mod NetworkLawsSettle

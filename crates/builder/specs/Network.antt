@@ -6,7 +6,7 @@ use mathlib.Core.List.{List}
 use mathlib.Core.Bool.{Bool, true, false, cond}
 use mathlib.Core.Logic.{_⊎_, _≢_}
 use lib.Dec.{T, eqb}
-use lib.ListN.{length, getD}
+use lib.ListN.{length, getD, set}
 
 -- what stands at a place
 abbrev pub at : List ℕ → ℕ → ℕ
@@ -66,6 +66,19 @@ pub record Chained (N E : ℕ) (key head next : List ℕ) : Type 0 where
   pub next-key : (f : ℕ) → f < E → (g : ℕ) → at next f ≡ g + 1 → at key g ≡ at key f
   pub next-all : (f : ℕ) → f < E → (e : ℕ) → e < f → at key e ≡ at key f → e < at next f
 
+-- what building a chain asks: the keys are nodes, and the arrays are as long as they are
+pub record Keys (N E : ℕ) (key head next : List ℕ) : Type 0 where
+  pub few-nodes : N ≤ 129
+  pub few-edges : E ≤ 464
+  pub key-node : (e : ℕ) → e < E → at key e < N
+  pub head-long : length head ≡ 129
+  pub next-long : length next ≡ 464
+
+-- the first N are 0
+pub record Cleared (N : ℕ) (head : List ℕ) : Type 0 where
+  pub long : length head ≡ 129
+  pub nothing : (u : ℕ) → u < N → at head u ≡ 0
+
 -- every slack is at least 0: cost plus the mark an edge comes from is not below the mark it goes to
 abbrev pub SlacksHold : ℕ → List ℕ → List ℕ → List ℕ → List ℕ → Type 0
 SlacksHold E from to cost mark = (e : ℕ) → e < E → at mark (at to e) ≤ at cost e + at mark (at from e)
@@ -92,6 +105,79 @@ pub data Hop (E : ℕ) (from to cost load mark dist via rank : List ℕ) (v : �
       at dist v + at mark v ≡ at dist (at from e) + (at cost e + at mark (at from e)) → Hop E from to cost load mark dist via rank v
   back : (e : ℕ) → e < E → at via v ≡ 2 * e + 1 → at from e ≡ v → at rank (at to e) < at rank v →
       1 ≤ at load e → at dist v ≡ at dist (at to e) → Hop E from to cost load mark dist via rank v
+
+-- a node that is not reached yet has this distance
+abbrev pub far : ℕ
+far = 1_152_921_504_606_846_976
+
+-- no slack is more
+abbrev pub widest : ℕ
+widest = 4_000_000_000
+
+-- what a search asks of edges and marks: slacks are at least 0, and small
+pub record Lanes (N E : ℕ) (from to cost mark : List ℕ) : Type 0 where
+  pub few-nodes : N ≤ 129
+  pub few-edges : E ≤ 464
+  pub from-node : (e : ℕ) → e < E → at from e < N
+  pub to-node : (e : ℕ) → e < E → at to e < N
+  pub least : SlacksHold E from to cost mark
+  pub most : (e : ℕ) → e < E → at cost e + at mark (at from e) ≤ at mark (at to e) + widest
+  pub small : (e : ℕ) → e < E → at cost e + at mark (at from e) ≤ 10_000_000_000
+
+-- A search under way. A node is settled where its rank is below N, and then its distance is final. u is the node settled last: the edges that leave
+-- it are looked at down to number h, those that enter it down to number k, and all edges of the nodes settled before it are. Nothing that is settled
+-- is further than u, and nothing else is nearer; every node that is reached has its hop from a settled one.
+pub record Growing (N E : ℕ) (from to cost load mark : List ℕ) (source u h k count : ℕ) (dist via rank : List ℕ) : Type 0 where
+  pub dist-long : length dist ≡ 129
+  pub via-long : length via ≡ 129
+  pub rank-long : length rank ≡ 129
+  pub source-node : source < N
+  pub node : u < N
+  pub from-here : at dist source ≡ 0
+  pub source-settled : at rank source < N
+  pub here-settled : at rank u < N
+  pub relaxed : (e : ℕ) → e < E → at rank (at from e) < N → (at from e ≡ u → h ≤ e) →
+      at dist (at to e) + at mark (at to e) ≤ at dist (at from e) + (at cost e + at mark (at from e))
+  pub relaxed-back : (e : ℕ) → e < E → 1 ≤ at load e → at rank (at to e) < N → (at to e ≡ u → k ≤ e) → at dist (at from e) ≤ at dist (at to e)
+  pub latest : (v : ℕ) → v < N → at rank v < N → at dist v ≤ at dist u
+  pub beyond : (v : ℕ) → v < N → N ≤ at rank v → at dist u ≤ at dist v
+  pub ranks : (v : ℕ) → v < N → at rank v < N → at rank v < count
+  pub rank-most : (v : ℕ) → v < N → at rank v ≤ N
+  -- so many are settled
+  pub tally : count + sumTo N (λ v. share N (at rank v) 1) ≡ N
+  pub near : (v : ℕ) → v < N → at dist v < far → at dist v ≤ count * widest
+  pub here-near : at dist u + widest ≤ count * widest
+  pub hops : (v : ℕ) → v < N → at dist v < far → (v ≡ source) ⊎ Hop E from to cost load mark dist via rank v
+
+-- the nearest of the nodes that are reached and not settled; N where there is none
+pub record Nearest (N : ℕ) (dist rank : List ℕ) (r : ℕ) : Type 0 where
+  pub node : r ≤ N
+  pub open-still : r < N → N ≤ at rank r
+  pub reached : r < N → at dist r < far
+  pub least : (v : ℕ) → v < N → N ≤ at rank v → at dist v < far → (r < N) × (at dist r ≤ at dist v)
+
+-- the distance d to v, reached as p says, is taken where it is less than what was known
+pub data Lowered (dist via : List ℕ) (v d p : ℕ) (dist' via' : List ℕ) : Type 0 where
+  nearer : d < at dist v → dist' ≡ set dist v d → via' ≡ set via v p → Lowered dist via v d p dist' via'
+  kept : at dist v ≤ d → dist' ≡ dist → via' ≡ via → Lowered dist via v d p dist' via'
+
+-- what a search asks of its source: somewhere behind the root there is a deficit
+pub record Seeking (N E : ℕ) (from to cost mark deficit : List ℕ) (source : ℕ) : Type 0 where
+  pub lanes : Lanes N E from to cost mark
+  pub source-node : source < N
+  pub source-none : at deficit source ≡ 0
+  pub goal : ℕ
+  pub goal-wants : 1 ≤ at deficit goal
+  pub to-root : (c : ℕ) × Way E from to cost source 0 c
+  pub from-root : (c : ℕ) × Way E from to cost 0 goal c
+
+-- nothing is reached yet
+pub record Fresh (N : ℕ) (dist via rank : List ℕ) : Type 0 where
+  pub dist-long : length dist ≡ 129
+  pub via-long : length via ≡ 129
+  pub rank-long : length rank ≡ 129
+  pub nowhere : (v : ℕ) → v < N → at dist v ≡ far
+  pub unsettled : (v : ℕ) → v < N → at rank v ≡ N
 
 -- What a search from a source has found: a target with a deficit, and for each node a distance, along slacks forward and at no cost back along a
 -- loaded edge. A node is settled where its rank is below N. Where no edge shortens a distance below the target's, raising each mark by the lesser of
