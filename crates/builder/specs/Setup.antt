@@ -16,9 +16,7 @@ pub record Counted (s : List ℕ) (n m : ℕ) : Type 0 where
   pub vertices : n ≡ vertexCount s
   pub arcs : m ≡ arcCount s
 
--- for each vertex of the form s the array says what f says of it
-abbrev pub Says : List ℕ → (ℕ → Bool) → List Bool → Type 0
-Says s f xs = (v : ℕ) → v < vertexCount s → getD xs v false ≡ f v
-
-abbrev pub StartsMarked : List ℕ → List Bool → Type 0
-StartsMarked s xs = Says s (isStart (graphOf s)) xs
+-- for each vertex of the form s the array of 64 says what f says of it
+pub record Tells (s : List ℕ) (f : ℕ → Bool) (xs : List Bool) : Type 0 where
+  pub long : length xs ≡ 64
+  pub says : (v : ℕ) → v < vertexCount s → getD xs v false ≡ f v

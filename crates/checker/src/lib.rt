@@ -125,4 +125,5 @@ impl Answer {
         Answer { paths: 0, price: 0 }
     }
 }
+
 mod reads;

@@ -147,4 +147,3 @@ relax-out-spec =
     loop-less
     loop-again
     returns)
-

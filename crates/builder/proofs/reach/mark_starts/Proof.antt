@@ -1,26 +1,24 @@
-use Prim.Native.Nat.{_≤_, _-_}
+-- `builder::reach::mark_starts` meets its contract.
+use borrow.Author.Needs.{needs}
+use Prim.Native.Nat.{_≤_, _-_, _%_}
 use native.Mathlib.Omega.{arith}
-use mathlib.Core.Path.{_≡_, sym, ap, _∙_}
-use mathlib.Core.Bool.{Bool, false}
-use lib.ListN.{length, length-set}
+use mathlib.Core.Path.{sym, ap, _∙_}
+use mathlib.Core.Bool.{false}
+use lib.Dec.{eqb}
 use Rattle.mathematics.specs.Graph.{isStart}
 use Rattle.checker.specs.GraphOf.{graphOf}
-use Rattle.builder.proofs.SetupLaws.{FilledTo, fill-none, fill-more, start-is}
-use borrow.Author.Needs.{needs}
+use Rattle.builder.proofs.SetupLaws.{Filled, fill-none, fill-more, start-is}
 use Rattle.builder.proofs.reach.mark_starts.Statement.{statement}
 use Rattle.builder.proofs.reach.mark_starts.Tie as tie
-use Rattle.builder.proofs.reach.mark_starts.Reads as reads
-use Rattle.builder.proofs.reach.mark_starts.Lts as lts
-use Rattle.checker.proofs.bytes.wide.Reads as wide-reads
 
 abbrev Inv-loop : tie.InvT-loop
-Inv-loop s n reached₀ v₀ reached v = (v ≤ n) × (length reached ≡ 64) × FilledTo false (isStart (graphOf s)) reached v
+Inv-loop s n reached₀ v₀ reached v = (v ≤ n) × Filled 64 false (isStart (graphOf s)) reached v
 
 abbrev μ-loop : tie.MeasureT-loop
 μ-loop s n reached₀ v₀ reached v = n - v
 
 loop-holds : tie.Need-loop-holds Inv-loop μ-loop
-loop-holds c = search needs
+loop-holds c = (search needs, fill-none (search needs))
 
 mul-wide : tie.Need-mul-wide Inv-loop μ-loop
 mul-wide c = search needs
@@ -29,7 +27,7 @@ add-wide : tie.Need-add-wide Inv-loop μ-loop
 add-wide c = search needs
 
 shared-slice-read-wide : tie.Need-shared-slice-read-wide Inv-loop μ-loop
-shared-slice-read-wide c = search needs
+shared-slice-read-wide c = omega (arith, c .before .before .before .before .pre .0 .vertices (c .before .before .loop .v) (omega arith) .whole)
 
 wide-requires : tie.Need-wide-requires Inv-loop μ-loop
 wide-requires c κs = search needs
@@ -44,24 +42,10 @@ loop-less : tie.Need-loop-less Inv-loop μ-loop
 loop-less c = search needs
 
 loop-again : tie.Need-loop-again Inv-loop μ-loop
-loop-again c = search needs
+loop-again c = (search needs, fill-more (c .before .before .before .loop .inv .1) (search needs) (ap (λ w. eqb (w % 2) 1) (c .wide .ensures .0) ∙ sym (start-is _ _ (search needs))))
 
 returns : tie.Need-returns Inv-loop μ-loop
-returns c = search needs
+returns c = record { long = c .before .loop .inv .1 .long; says = λ v l. c .before .loop .inv .1 .each v (omega arith) }
 
 pub mark-starts-spec : {M : Type 1} → statement M
-mark-starts-spec =
-    tie.close
-    (tie.spec
-    Inv-loop
-    μ-loop
-    loop-holds
-    mul-wide
-    add-wide
-    shared-slice-read-wide
-    wide-requires
-    element-write-reached
-    add-v
-    loop-less
-    loop-again
-    returns)
+mark-starts-spec = tie.close (tie.spec Inv-loop μ-loop loop-holds mul-wide add-wide shared-slice-read-wide wide-requires element-write-reached add-v loop-less loop-again returns)
