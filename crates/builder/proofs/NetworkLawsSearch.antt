@@ -284,14 +284,14 @@ module _ (N E : ℕ) (from to cost load mark : List ℕ) (source u h k count her
       let l : h - 1 < E = omega arith in
       let m = ap (at mark) (key (h - 1) (omega arith)) in
       let n = L .few-nodes in
-      record {
-        edge = l;
-        end-node = omega (arith, L .to-node (h - 1) l);
-        sum = omega (arith, L .small (h - 1) l);
-        slack = omega (arith, L .least (h - 1) l);
-        here-small = omega (arith, here-far);
-        fewer = omega (arith, C .next-below (h - 1) l);
-      }
+      record
+        { edge = l
+        ; end-node = omega (arith, L .to-node (h - 1) l)
+        ; sum = omega (arith, L .small (h - 1) l)
+        ; slack = omega (arith, L .least (h - 1) l)
+        ; here-small = omega (arith, here-far)
+        ; fewer = omega (arith, C .next-below (h - 1) l)
+        }
 
 -- ---- the walk along the chain of u: what holds where h is the next edge's number plus 1
 module _ (N E : ℕ) (from to cost load mark : List ℕ) (source u count here : ℕ) (rank : List ℕ) where
@@ -302,12 +302,11 @@ module _ (N E : ℕ) (from to cost load mark : List ℕ) (source u count here : 
   module _ (head next dist via : List ℕ) (L : Lanes N E from to cost mark) where
     pub out-first : Chained N E from head next → Growing N E from to cost load mark source u E E count dist via rank → at dist u ≡ here →
         OutWalk (at head u) dist via
-    out-first C G d = (
-      C .head-below u (G .node),
-      C .head-key u (G .node),
-      d,
-      out-begun N E from to cost load mark source u count dist via rank L (at head u) (C .head-all u (G .node)) G,
-    )
+    out-first C G d =
+        (C .head-below u (G .node),
+        C .head-key u (G .node),
+        d,
+        out-begun N E from to cost load mark source u count dist via rank L (at head u) (C .head-all u (G .node)) G)
 
     pub out-again : Chained N E from head next → (h : ℕ) → OutWalk h dist via → 0 < h → (dist' via' : List ℕ) →
         Lowered dist via (at to (h - 1)) (here + (at cost (h - 1) + at mark u - at mark (at to (h - 1)))) (2 * (h - 1)) dist' via' →
@@ -318,12 +317,11 @@ module _ (N E : ℕ) (from to cost load mark : List ℕ) (source u count here : 
         let key = w .1 (h - 1) s in
         let G = subst (λ x. Growing N E from to cost load mark source u x E count dist via rank) s (w .3) in
         let t = out-turn N E from to cost load mark source u count (h - 1) (at next (h - 1)) _ dist via rank dist' via' L l G key
-        (λ e b q. C .next-all (h - 1) l e b (q ∙ sym key)) (let a = w .2 in omega arith) low in (
-          let a = C .next-below (h - 1) l in omega arith,
-          λ g q. C .next-key (h - 1) l g q ∙ key,
-          t .1 ∙ w .2,
-          t .0,
-        )
+              (λ e b q. C .next-all (h - 1) l e b (q ∙ sym key)) (let a = w .2 in omega arith) low in
+        (let a = C .next-below (h - 1) l in omega arith,
+        λ g q. C .next-key (h - 1) l g q ∙ key,
+        t .1 ∙ w .2,
+        t .0)
 
   abbrev pub BackWalk : ℕ → List ℕ → List ℕ → Type 0
   BackWalk k dist via =
@@ -332,12 +330,11 @@ module _ (N E : ℕ) (from to cost load mark : List ℕ) (source u count here : 
   module _ (head next dist via : List ℕ) (L : Lanes N E from to cost mark) where
     pub back-first : Chained N E to head next → Growing N E from to cost load mark source u 0 E count dist via rank → at dist u ≡ here →
         BackWalk (at head u) dist via
-    back-first C G d = (
-      C .head-below u (G .node),
-      C .head-key u (G .node),
-      d,
-      back-begun N E from to cost load mark source u count dist via rank L (at head u) (C .head-all u (G .node)) G,
-    )
+    back-first C G d =
+        (C .head-below u (G .node),
+        C .head-key u (G .node),
+        d,
+        back-begun N E from to cost load mark source u count dist via rank L (at head u) (C .head-all u (G .node)) G)
 
     module _ (C : Chained N E to head next) (k : ℕ) (w : BackWalk k dist via) (pos : 0 < k) where
       edge : k - 1 < E
@@ -366,14 +363,12 @@ module _ (N E : ℕ) (from to cost load mark : List ℕ) (source u count here : 
           x ≡ dist' → y ≡ via' → BackWalk (at next (k - 1)) x y
       back-again loaded dist' via' x y low ex ey =
           let t = back-turn N E from to cost load mark source u count (k - 1) (at next (k - 1)) here dist via rank dist' via' L edge stands
-          (w .1 (k - 1) is-next) rest loaded (sym (w .2)) low in
+                (w .1 (k - 1) is-next) rest loaded (sym (w .2)) low in
           rw (ex, ey) (fewer, λ g q. C .next-key (k - 1) edge g q ∙ w .1 (k - 1) is-next, t .1 ∙ w .2, t .0)
 
       pub back-skipped : at load (k - 1) ≤ 0 → (x y : List ℕ) → x ≡ dist → y ≡ via → BackWalk (at next (k - 1)) x y
       back-skipped none x y ex ey =
-          rw (ex, ey) (
-            fewer,
-            λ g q. C .next-key (k - 1) edge g q ∙ w .1 (k - 1) is-next,
-            w .2,
-            back-unloaded N E from to cost load mark source u count (k - 1) (at next (k - 1)) 0 dist via rank dist via L edge stands rest (omega arith),
-          )
+          rw (ex, ey) (fewer,
+          λ g q. C .next-key (k - 1) edge g q ∙ w .1 (k - 1) is-next,
+          w .2,
+          back-unloaded N E from to cost load mark source u count (k - 1) (at next (k - 1)) 0 dist via rank dist via L edge stands rest (omega arith))

@@ -41,7 +41,7 @@ module _ (N E : ℕ) (from to cost load mark deficit : List ℕ) (source : ℕ) 
       let now = share-other N (at (set rank source 0) source) 1 (λ q. let a = source-rank in omega arith) in
       let was = share-same N (at rank source) 1 (sym (F .unsettled source sn)) in
       let swap = sum-change N source (λ v. share N (at (set rank source 0) v) 1) (λ v. share N (at rank v) 1) sn
-      (λ v ne. ap (λ x. share N x 1) (getD-set-other rank source v 0 0 ne)) in
+            (λ v ne. ap (λ x. share N x 1) (getD-set-other rank source v 0 0 ne)) in
       omega (arith, all, now, was, swap)
 
   pub begun : Growing N E from to cost load mark source source E E 1 (set dist source 0) via (set rank source 0)
@@ -49,26 +49,26 @@ module _ (N E : ℕ) (from to cost load mark deficit : List ℕ) (source : ℕ) 
       let sn = S .source-node in
       let sd = source-dist in
       let sr = source-rank in
-      record {
-        dist-long = length-set dist source 0 ∙ F .dist-long;
-        via-long = F .via-long;
-        rank-long = length-set rank source 0 ∙ F .rank-long;
-        source-node = sn;
-        node = sn;
-        from-here = sd;
-        source-settled = omega arith;
-        here-settled = omega arith;
-        relaxed = λ e l r t. absurd (let a = t (only-source (at from e) (S .lanes .from-node e l) r) in omega arith);
-        relaxed-back = λ e l o r t. absurd (let a = t (only-source (at to e) (S .lanes .to-node e l) r) in omega arith);
-        latest = λ v vn l. omega (arith, ap (at (set dist source 0)) (only-source v vn l));
-        beyond = λ v vn l. omega arith;
-        ranks = λ v vn l. omega (arith, ap (at (set rank source 0)) (only-source v vn l));
-        rank-most = λ v vn. ⊎-elim (λ s. omega arith) (λ o. omega (arith, F .unsettled v vn)) (start-rank v);
-        tally = one-settled;
-        near = λ v vn l. omega (arith, ap (at (set dist source 0)) (reached-source v vn l));
-        here-near = omega arith;
-        hops = λ v vn l. inl (reached-source v vn l);
-      }
+      record
+        { dist-long = length-set dist source 0 ∙ F .dist-long
+        ; via-long = F .via-long
+        ; rank-long = length-set rank source 0 ∙ F .rank-long
+        ; source-node = sn
+        ; node = sn
+        ; from-here = sd
+        ; source-settled = omega arith
+        ; here-settled = omega arith
+        ; relaxed = λ e l r t. absurd (let a = t (only-source (at from e) (S .lanes .from-node e l) r) in omega arith)
+        ; relaxed-back = λ e l o r t. absurd (let a = t (only-source (at to e) (S .lanes .to-node e l) r) in omega arith)
+        ; latest = λ v vn l. omega (arith, ap (at (set dist source 0)) (only-source v vn l))
+        ; beyond = λ v vn l. omega arith
+        ; ranks = λ v vn l. omega (arith, ap (at (set rank source 0)) (only-source v vn l))
+        ; rank-most = λ v vn. ⊎-elim (λ s. omega arith) (λ o. omega (arith, F .unsettled v vn)) (start-rank v)
+        ; tally = one-settled
+        ; near = λ v vn l. omega (arith, ap (at (set dist source 0)) (reached-source v vn l))
+        ; here-near = omega arith
+        ; hops = λ v vn l. inl (reached-source v vn l)
+        }
 
 -- ---- a deficit is always reached: what is reached is closed under edges, and the ways lead from the source by the root to the goal
 pub way-closed : {E : ℕ} {from to cost : List ℕ} {u w c : ℕ} (P : ℕ → Type 0) → ((e : ℕ) → e < E → P (at from e) → P (at to e)) →
@@ -127,7 +127,7 @@ module _ (N E : ℕ) (from to cost load mark : List ℕ) (source u count : ℕ) 
       let now = share-other N (at (set rank r count) r) 1 (λ q. let a = rank-here in omega arith) in
       let was = share-same N (at rank r) 1 (sym was-open) in
       let swap = sum-change N r (λ v. share N (at (set rank r count) v) 1) (λ v. share N (at rank v) 1) rn
-      (λ v ne. ap (λ x. share N x 1) (getD-set-other rank r v count 0 ne)) in
+            (λ v ne. ap (λ x. share N x 1) (getD-set-other rank r v count 0 ne)) in
       omega (arith, G .tally)
 
   -- a node settled before keeps its rank
@@ -155,29 +155,29 @@ module _ (N E : ℕ) (from to cost load mark : List ℕ) (source u count : ℕ) 
   pub settled : Growing N E from to cost load mark source r E E (count + 1) dist via (set rank r count)
   settled =
       let m = more-open in
-      record {
-        dist-long = G .dist-long;
-        via-long = G .via-long;
-        rank-long = length-set rank r count ∙ G .rank-long;
-        source-node = G .source-node;
-        node = rn;
-        from-here = G .from-here;
-        source-settled = let a = rank-kept source (G .source-settled) in let b = G .source-settled in omega arith;
-        here-settled = let a = rank-here in omega arith;
-        relaxed = λ e l p t. G .relaxed e l (before (at from e) (λ q. let a = t q in omega arith) p) (λ _. omega arith);
-        relaxed-back = λ e l o p t. G .relaxed-back e l o (before (at to e) (λ q. let a = t q in omega arith) p) (λ _. omega arith);
-        latest = λ v vn l. ⊎-elim
+      record
+        { dist-long = G .dist-long
+        ; via-long = G .via-long
+        ; rank-long = length-set rank r count ∙ G .rank-long
+        ; source-node = G .source-node
+        ; node = rn
+        ; from-here = G .from-here
+        ; source-settled = let a = rank-kept source (G .source-settled) in let b = G .source-settled in omega arith
+        ; here-settled = let a = rank-here in omega arith
+        ; relaxed = λ e l p t. G .relaxed e l (before (at from e) (λ q. let a = t q in omega arith) p) (λ _. omega arith)
+        ; relaxed-back = λ e l o p t. G .relaxed-back e l o (before (at to e) (λ q. let a = t q in omega arith) p) (λ _. omega arith)
+        ; latest = λ v vn l. ⊎-elim
             (λ s. let a = ap (at dist) s in omega arith)
             (λ ne. let a = G .latest v vn (before v ne l) in let b = G .beyond r rn (R .open-still rn) in omega arith)
-            (same-or-not v r);
-        beyond = λ v vn l. ⊎-elim (λ s. absurd (let a = s .1 in omega arith)) (λ o. let a = o .1 in not-nearer v vn (omega arith)) (on-rank v);
-        ranks = λ v vn l. ⊎-elim (λ s. let a = s .1 in omega arith) (λ o. let a = G .ranks v vn (before v (o .0) l) in let b = o .1 in omega arith) (on-rank v);
-        rank-most = λ v vn. ⊎-elim (λ s. let a = s .1 in omega arith) (λ o. let a = G .rank-most v vn in let b = o .1 in omega arith) (on-rank v);
-        tally = one-more;
-        near = λ v vn l. let a = G .near v vn l in omega arith;
-        here-near = let a = G .near r rn (R .reached rn) in omega arith;
-        hops = λ v vn l. ⊎-elim inl (λ h. inr (hop-kept v vn h)) (G .hops v vn l);
-      }
+            (same-or-not v r)
+        ; beyond = λ v vn l. ⊎-elim (λ s. absurd (let a = s .1 in omega arith)) (λ o. let a = o .1 in not-nearer v vn (omega arith)) (on-rank v)
+        ; ranks = λ v vn l. ⊎-elim (λ s. let a = s .1 in omega arith) (λ o. let a = G .ranks v vn (before v (o .0) l) in let b = o .1 in omega arith) (on-rank v)
+        ; rank-most = λ v vn. ⊎-elim (λ s. let a = s .1 in omega arith) (λ o. let a = G .rank-most v vn in let b = o .1 in omega arith) (on-rank v)
+        ; tally = one-more
+        ; near = λ v vn l. let a = G .near v vn l in omega arith
+        ; here-near = let a = G .near r rn (R .reached rn) in omega arith
+        ; hops = λ v vn l. ⊎-elim inl (λ h. inr (hop-kept v vn h)) (G .hops v vn l)
+        }
 
 -- ---- what is found
 module _ (N E : ℕ) (from to cost load mark deficit : List ℕ) (source u h k count : ℕ) (dist via rank : List ℕ)
@@ -186,21 +186,21 @@ module _ (N E : ℕ) (from to cost load mark deficit : List ℕ) (source u h k c
   near-here = here-far N E from to cost load mark source u h k count 0 dist via rank (S .lanes) G
 
   pub found : 1 ≤ at deficit u → Found N E from to cost load mark deficit source u dist via rank
-  found w = record {
-    target-node = G .node;
-    wants = w;
-    not-source = λ q. let a = S .source-none in let b = ap (at deficit) q in omega arith;
-    from-here = G .from-here;
-    not-far = near-here;
-    relaxed = λ e l. ⊎-elim
+  found w = record
+    { target-node = G .node
+    ; wants = w
+    ; not-source = λ q. let a = S .source-none in let b = ap (at deficit) q in omega arith
+    ; from-here = G .from-here
+    ; not-far = near-here
+    ; relaxed = λ e l. ⊎-elim
         (λ s. inr (let a = ap (at dist) s in omega arith))
         (λ ne. ⊎-elim (λ p. inl (G .relaxed e l p (λ q. absurd (ne q)))) (λ p. inr (G .beyond (at from e) (S .lanes .from-node e l) p)) (below-or-not (at rank (at from e)) N))
-        (same-or-not (at from e) u);
-    relaxed-back = λ e l o. ⊎-elim
+        (same-or-not (at from e) u)
+    ; relaxed-back = λ e l o. ⊎-elim
         (λ s. inr (let a = ap (at dist) s in omega arith))
         (λ ne. ⊎-elim (λ p. inl (G .relaxed-back e l o p (λ q. absurd (ne q)))) (λ p. inr (G .beyond (at to e) (S .lanes .to-node e l) p)) (below-or-not (at rank (at to e)) N))
-        (same-or-not (at to e) u);
-    target-settled = G .here-settled;
-    settled-near = λ v vn l. G .latest v vn l;
-    hops = λ v vn l. G .hops v vn (let a = G .latest v vn l in let b = near-here in omega arith);
-  }
+        (same-or-not (at to e) u)
+    ; target-settled = G .here-settled
+    ; settled-near = λ v vn l. G .latest v vn l
+    ; hops = λ v vn l. G .hops v vn (let a = G .latest v vn l in let b = near-here in omega arith)
+    }

@@ -171,40 +171,8 @@ fn search(
     let mut u = source;
     let mut count: usize = 1;
     while deficit[u] == 0 {
-        relax_out(
-            nodes,
-            edges,
-            from,
-            to,
-            cost,
-            load,
-            mark,
-            headout,
-            nextout,
-            source,
-            u,
-            count,
-            dist,
-            via,
-            rank,
-        );
-        relax_back(
-            nodes,
-            edges,
-            from,
-            to,
-            cost,
-            load,
-            mark,
-            headin,
-            nextin,
-            source,
-            u,
-            count,
-            dist,
-            via,
-            rank,
-        );
+        relax_out(nodes, edges, from, to, cost, load, mark, headout, nextout, source, u, count, dist, via, rank);
+        relax_back(nodes, edges, from, to, cost, load, mark, headin, nextin, source, u, count, dist, via, rank);
         u = nearest(nodes, dist, rank);
         rank[u] = count;
         count += 1;

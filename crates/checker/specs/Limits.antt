@@ -44,7 +44,6 @@ markLimit = 2_000_000_000
 -- "vertex count 1..64"
 abbrev pub maxPathLength : ℕ
 maxPathLength = 64
-
 abbrev pub maxMark : ℕ
 maxMark = 2_000_000_000
 

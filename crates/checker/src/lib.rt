@@ -125,5 +125,4 @@ impl Answer {
         Answer { paths: 0, price: 0 }
     }
 }
-
 mod reads;

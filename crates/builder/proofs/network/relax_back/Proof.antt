@@ -84,9 +84,9 @@ loop-again c =
     let n = c .before .before .before in
     let p = n .before .before .before .before .pre in
     ⊎-elim
-    (λ w. back-again _ _ _ _ _ _ _ _ _ _ _ _ _ _ _ _ (p .0) (p .1 .0) _ (n .before .loop .inv) (n .loop-test .taken) (w .0 .taken) _ _ _ _ (w .4 .ensures) (w .5) (w .6))
-    (λ w. back-skipped _ _ _ _ _ _ _ _ _ _ _ _ _ _ _ _ (p .0) (p .1 .0) _ (n .before .loop .inv) (n .loop-test .taken) (w .0 .left) _ _ (w .1) (w .2))
-    (c .before .if1 .came)
+      (λ w. back-again _ _ _ _ _ _ _ _ _ _ _ _ _ _ _ _ (p .0) (p .1 .0) _ (n .before .loop .inv) (n .loop-test .taken) (w .0 .taken) _ _ _ _ (w .4 .ensures) (w .5) (w .6))
+      (λ w. back-skipped _ _ _ _ _ _ _ _ _ _ _ _ _ _ _ _ (p .0) (p .1 .0) _ (n .before .loop .inv) (n .loop-test .taken) (w .0 .left) _ _ (w .1) (w .2))
+      (c .before .if1 .came)
 
 returns : tie.Need-returns Inv-loop μ-loop
 returns c =

@@ -147,3 +147,4 @@ relax-out-spec =
     loop-less
     loop-again
     returns)
+
