@@ -116,10 +116,14 @@ module _ (s : List ℕ) where
         let e : a + (b - a) ≡ b = omega arith in
         subst (λ k. tailOf s a ≤ tailOf s k) e (later (b - a) a (omega arith))
 
+-- where the record of arc a stands
+pub its-place : {s : List ℕ} {n m : ℕ} → Counted s n m → (a : ℕ) → arcAt s a ≡ 13 + 5 * n + 10 * a
+its-place c a = omega (arith, c .vertices)
+
 -- what stands in the record of arc a
 module _ {s : List ℕ} {n m : ℕ} (c : Counted s n m) (a : ℕ) (low : a < m) where
   its-offset : 13 + 5 * n + 10 * a ≡ arcAt s a
-  its-offset = omega (arith, c .vertices)
+  its-offset = sym (its-place c a)
 
   its-number : a < arcCount s
   its-number = omega (arith, c .arcs)
