@@ -1,3 +1,7 @@
+-- Laws that the proofs of functions cite.
+pub mod SetupLaws
+pub mod SetupLawsReach
+pub mod SetupLawsLacking
 -- The laws that the builder's proofs cite.
 pub mod NetworkLaws
 pub mod NetworkLawsSearch

@@ -12,3 +12,4 @@ mod network;
 
 // What a build ends with: marks, price, and the answer form in the output.
 mod finish;
+mod reach;
