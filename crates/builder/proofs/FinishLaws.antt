@@ -4,20 +4,26 @@ use native.Mathlib.Omega.{arith}
 use native.Mathlib.Numerals.{add-one}
 use mathlib.Core.Path.{_≡_, refl, sym, ap, ap₂, subst, _∙_}
 use mathlib.Core.List.{List, [], _∷_, _++_, append-assoc, append-nil}
+use mathlib.Core.Bool.{Bool, cond, _&&_}
 use borrow.Author.Tests.{lt-ltb}
 use lib.IntN.{ℤ, negsuc, subℕ}
 use lib.ListN.{length, getD, take, drop, set, length-append, length-drop, take-append-drop}
 use lib.Seq.{take-at, drop-at, drop-drop, take-suc, sets-eq, length-take-le}
 use Rattle.mathematics.specs.Cover.{Weighted}
 use Rattle.mathematics.specs.Bound.{Marks}
-use Rattle.checker.specs.Bytes.{tabulate}
+use Rattle.mathematics.specs.Reach.{fromStart, toEnd}
+use Rattle.checker.specs.Bytes.{be32, tabulate}
+use Rattle.checker.specs.GraphForm.{vertexCount, arcCount, openingPrice, arcAt, arcCost}
+use Rattle.checker.specs.GraphOf.{graphOf}
 use Rattle.checker.specs.Encode.{bytes16, bytes32, bytes64, word32, markBytes, pathBytes, afterLength, encodeAnswer}
 use Rattle.checker.proofs.GraphFacts.{length-tabulate}
 use Rattle.checker.proofs.Encoding.{pathRecord, marks-length}
 use Rattle.checker.proofs.CertifyLawsSlack.{low-difference}
-use Rattle.builder.specs.Network.{at, base}
+use Rattle.builder.specs.Network.{at, sumTo, base, reach}
 use Rattle.builder.specs.Peel.{collectedAt, collected}
-use Rattle.builder.specs.Finish.{Placed, heldMarks}
+use Rattle.builder.specs.Slots.{acrossSlot}
+use Rattle.builder.specs.Finish.{Placed, heldMark, heldMarks, copiesOf, arcWorth, priceFrom, Priced}
+use Rattle.builder.proofs.FinishLawsSlots.{sum-up}
 
 module _ (a b : List ℕ) (place : ℕ) (x : List ℕ) (P : Placed a place x b) where
   front-length : length (take place a) ≡ place
@@ -239,3 +245,65 @@ module _ (a b c d e f : List ℕ) (n price : ℕ) (m : Marks ℤ) (W : List Weig
             (subst (λ j. Placed e 0 (bytes32 j) f) is P32),
         omega arith,
       )
+
+-- ---- marks and price
+
+-- a side's mark by the two flags of its vertex
+pub held-is : (s mark : List ℕ) (side : ℕ → ℕ) (v : ℕ) (reached reaching : Bool) (x : ℕ) → reached ≡ fromStart (graphOf s) v → reaching ≡ toEnd (graphOf s) v →
+    x ≡ cond (reached && reaching) (at mark (side v)) (cond reached (base - reach) (base + reach)) → x ≡ heldMark s side mark v
+unfolding heldMark
+held-is s mark side v reached reaching x e f q = q ∙ ap₂ (λ a b. cond (a && b) (at mark (side v)) (cond a (base - reach) (base + reach))) e f
+
+-- one more term of a sum
+pub sum-more : (n : ℕ) (f : ℕ → ℕ) (x y : ℕ) → x ≡ sumTo n f → y ≡ f n → x + y ≡ sumTo (n + 1) f
+sum-more n f x y e q = ap₂ (λ (a b : ℕ). a + b) e q ∙ ap (λ k. sumTo k f) (sym (add-one n))
+
+-- the price of the loads, arc after arc
+module _ (s full arcReads : List ℕ) (P : Priced s full arcReads) (n m : ℕ) (en : n ≡ vertexCount s) (em : m ≡ arcCount s) where
+  abbrev before : ℕ → ℕ
+  before a = copiesOf s full * openingPrice s + sumTo a (arcWorth s full)
+
+  copies-same : sumTo n (λ k. at full (n + m + k)) ≡ copiesOf s full
+  copies-same = ap₂ (λ x y. sumTo x (λ k. at full (x + y + k))) en em
+
+  pub copies-asked : (n ≤ 64) × (n + m ≤ 320) × (sumTo n (λ k. at full (n + m + k)) ≤ 320_000_016)
+  copies-asked = let h = P .reads .arcs .header in (omega (arith, h .few-vertices), omega (arith, h .few-vertices, h .few-arcs), omega (arith, copies-same, P .few))
+
+  -- no more is reckoned than the price
+  within : (a : ℕ) → a ≤ arcCount s → before a ≤ 1_000_000_000_000_000_000
+  unfolding priceFrom
+  within a h = omega (arith, P .low, sum-up a (arcCount s) (arcWorth s full) h)
+
+  pub first-price : (r o : ℕ) → r ≡ sumTo n (λ k. at full (n + m + k)) → o ≡ openingPrice s → r * o ≡ copiesOf s full * openingPrice s + sumTo 0 (arcWorth s full)
+  first-price r o e q = ap₂ (λ (x y : ℕ). x * y) (e ∙ copies-same) q ∙ (let z : copiesOf s full * openingPrice s ≡ copiesOf s full * openingPrice s + 0 = omega arith in z)
+
+  pub first-fits : (r o : ℕ) → r ≡ sumTo n (λ k. at full (n + m + k)) → o ≡ openingPrice s → r * o ≤ 1_000_000_000_000_000_000
+  first-fits r o e q = omega (arith, first-price r o e q, within 0 (omega arith))
+
+  module _ (a : ℕ) (h : a < m) where
+    pub total-fits : at full (n + (m - (a + 1))) + at arcReads a ≤ 1_000_000_000_000
+    total-fits =
+        let slot : n + (m - (a + 1)) ≡ acrossSlot s a = omega arith in
+        omega (arith, P .totals a (omega arith), P .counted a (omega arith), ap (at full) slot)
+
+    module _ (cost : ℕ) (ec : cost ≡ arcCost s (arcAt s a)) where
+      worth : (at full (n + (m - (a + 1))) + at arcReads a) * cost ≡ arcWorth s full a
+      worth =
+          let slot : n + (m - (a + 1)) ≡ acrossSlot s a = omega arith in
+          ap₂ (λ (x y : ℕ). x * y) (ap₂ (λ (x y : ℕ). x + y) (ap (at full) slot) (P .counted a (omega arith))) ec
+
+      pub next-price : (price : ℕ) → price ≡ copiesOf s full * openingPrice s + sumTo a (arcWorth s full) →
+          price + (at full (n + (m - (a + 1))) + at arcReads a) * cost ≡ copiesOf s full * openingPrice s + sumTo (a + 1) (arcWorth s full)
+      next-price price e = omega (arith, worth, ap (λ k. sumTo k (arcWorth s full)) (add-one a))
+
+      pub next-fits : (price : ℕ) → price ≡ copiesOf s full * openingPrice s + sumTo a (arcWorth s full) →
+          price + (at full (n + (m - (a + 1))) + at arcReads a) * cost ≤ 1_000_000_000_000_000_000
+      next-fits price e = omega (arith, next-price price e, within (a + 1) (omega arith))
+
+  -- after the last arc it is the price
+  pub price-done : (a price : ℕ) → a ≤ m → m ≤ a → price ≡ copiesOf s full * openingPrice s + sumTo a (arcWorth s full) → price ≡ priceFrom s full
+  unfolding priceFrom
+  price-done a price h k e = let q : a ≡ arcCount s = omega arith in omega (arith, ap (λ j. sumTo j (arcWorth s full)) q)
+
+pub cost-at : (s : List ℕ) (n a r : ℕ) → n ≡ vertexCount s → r ≡ be32 s (13 + 5 * n + 10 * a + 2) → r ≡ arcCost s (arcAt s a)
+cost-at s n a r e q = q ∙ ap (λ k. be32 s (13 + 5 * k + 10 * a + 2)) e

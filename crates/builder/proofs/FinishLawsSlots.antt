@@ -55,6 +55,10 @@ pub sum-most : (n : ℕ) (f g : ℕ → ℕ) → ((v : ℕ) → v < n → f v �
 sum-most zero f g h = omega arith
 sum-most (suc n) f g h = omega (arith, sum-most n f g (λ v l. h v (omega arith)), h n (omega arith))
 
+-- a sum of more terms is not less
+pub sum-up : (k n : ℕ) (f : ℕ → ℕ) → k ≤ n → sumTo k f ≤ sumTo n f
+sum-up k n f h = let e : k + (n - k) ≡ n = omega arith in omega (arith, sum-split k (n - k) f, ap (λ j. sumTo j f) e)
+
 -- f of each list, in total
 sum-reads : (i : Item) (rs : List (List ℕ)) → sumTo (length rs) (λ r. through i (getD rs r [])) ≡ readsThrough i rs
 sum-reads i [] = refl

@@ -13,6 +13,7 @@ use Rattle.mathematics.proofs.Links.{inNode, outNode, linkFrom, linkTo}
 use Rattle.mathematics.proofs.Marked.{sideMark}
 use Rattle.checker.specs.GraphForm.{vertexCount, arcCount, openingPrice, arcAt, arcTail, arcHead, arcCost}
 use Rattle.checker.specs.GraphOf.{graphOf}
+use Rattle.checker.specs.GraphReads.{Reads}
 use Rattle.builder.specs.Network.{at, sumTo, base, reach}
 use Rattle.builder.specs.Slots.{preparedOf, plainSlots, acrossSlot, readingSlot, linkAt, inUse, edgeCost, firstLoad}
 
@@ -76,3 +77,16 @@ pub record PathsFit (rows : List (List ℕ)) (lens weights : List ℕ) (count : 
   pub wide : (k : ℕ) → k < count → length (getD rows k []) ≡ 64
   pub short : (k : ℕ) → k < count → at lens k ≤ 64
   pub light : (k : ℕ) → k < count → at weights k < 4_294_967_296
+
+-- the arrays hold the final marks of all vertices of the form
+pub record MarksHeld (s mark into out : List ℕ) : Type 0 where
+  pub into-held : (v : ℕ) → v < vertexCount s → at into v ≡ heldMark s inNode mark v
+  pub out-held : (v : ℕ) → v < vertexCount s → at out v ≡ heldMark s outNode mark v
+
+-- the loads have a price that is small enough to reckon with, and the counts are those of the prepared reads through each arc
+pub record Priced (s full arcReads : List ℕ) : Type 0 where
+  pub reads : Reads s
+  pub few : copiesOf s full ≤ 320_000_016
+  pub low : priceFrom s full ≤ 1_000_000_000_000_000_000
+  pub totals : (a : ℕ) → a < arcCount s → at full (acrossSlot s a) + readsThrough (arcItem s a) (preparedOf s) ≤ 1_000_000_000_000
+  pub counted : (a : ℕ) → a < arcCount s → at arcReads a ≡ readsThrough (arcItem s a) (preparedOf s)

@@ -1,14 +1,87 @@
 // The end of a build: the marks of the vertices, the price, and the answer form in the output.
+use checker::Graph;
+use checker::bytes::be16;
+use checker::bytes::be32;
+use checker::bytes::wide;
 ghost use mathlib.Core.Path.{_≡_};
-ghost use Prim.Native.Nat.{ℕ, _+_, _*_, _<_, _≤_};
+ghost use Prim.Native.Nat.{ℕ, _+_, _*_, _-_, _<_, _≤_};
+ghost use mathlib.Core.Bool.{cond, _&&_};
 ghost use lib.IntN.{subℕ};
 ghost use lib.ListN.{length, getD, take};
 ghost use mathlib.Core.List.{[]};
 ghost use Rattle.checker.specs.Encode.{bytes16, bytes32, bytes64, word32, markBytes, pathBytes, encodeAnswer};
 ghost use Rattle.checker.proofs.Encoding.{pathRecord};
-ghost use Rattle.builder.specs.Network.{at, base};
+ghost use Rattle.builder.specs.Network.{at, sumTo, base, reach};
 ghost use Rattle.builder.specs.Peel.{collectedAt, collected};
-ghost use Rattle.builder.specs.Finish.{Placed, heldMarks, Writable, PathsFit};
+ghost use Rattle.builder.specs.Setup.{Marked};
+ghost use Rattle.builder.specs.Finish.{Placed, heldMarks, Writable, PathsFit, MarksHeld, Priced, priceFrom};
+
+// The mark of a side of a vertex, held with 2,000,000,000 added: its node's where the vertex is useful; the greatest where no start leads to it; else the least.
+fn side_mark(reached: bool, reaching: bool, own: u64) -> u64
+    ensures { λ r. ⌜ r ≡ cond (reached && reaching) own (cond reached (base - reach) (base + reach)) ⌝ }
+{
+    if reached {
+        if reaching {
+            return own;
+        }
+        return 937_000_000;
+    }
+    3_063_000_000
+}
+
+// The final marks of all vertices.
+pub fn final_marks(
+    s: &[u8],
+    reached: &[bool; Graph::MAX_VERTICES],
+    reaching: &[bool; Graph::MAX_VERTICES],
+    mark: &[u64; 129],
+    into: &mut [u64; 64],
+    outof: &mut [u64; 64],
+)
+    requires { ⌜ Marked (now s) (now reached) (now reaching) ⌝ }
+    requires { ⌜ (length (now into) ≡ 64) × (length (now outof) ≡ 64) ⌝ }
+    ensures { λ _. ⌜ MarksHeld (now (s .entry)) (now (mark .entry)) (now (into .exit)) (now (outof .exit)) ⌝ }
+{
+    let n = wide(s[Graph::AT_VERTICES]);
+    let mut v: usize = 0;
+    while v < n {
+        into[v] = side_mark(reached[v], reaching[v], mark[2 * v + 1]);
+        outof[v] = side_mark(reached[v], reaching[v], mark[2 * v + 2]);
+        v += 1;
+    }
+}
+
+// How many copies the loads open: those on the n openings, which stand from `first` on.
+fn copies(n: usize, first: usize, full: &[u64; 464]) -> u64
+    requires { ⌜ (n ≤ 64) × (first ≤ 320) × (sumTo n (λ k. at (now full) (first + k)) ≤ 320_000_016) ⌝ }
+    ensures { λ r. ⌜ r ≡ sumTo n (λ k. at (now (full .entry)) (first + k)) ⌝ }
+{
+    let mut sum: u64 = 0;
+    let mut k: usize = 0;
+    while k < n {
+        sum = sum + full[first + k];
+        k += 1;
+    }
+    sum
+}
+
+// The price: the opening price for each copy, and for each arc its cost for each copy through it.
+pub fn final_price(s: &[u8], full: &[u64; 464], arc_reads: &[usize; Graph::MAX_ARCS]) -> u64
+    requires { ⌜ Priced (now s) (now full) (now «arc_reads») ⌝ }
+    ensures { λ r. ⌜ r ≡ priceFrom (now (s .entry)) (now (full .entry)) ⌝ }
+{
+    let n = wide(s[Graph::AT_VERTICES]);
+    let m = be16(s, Graph::AT_ARCS);
+    let base = Graph::HEADER + Graph::VERTEX * n;
+    let mut price = copies(n, n + m, full) * (be32(s, 9) as u64);
+    let mut a: usize = 0;
+    while a < m {
+        let total = full[n + (m - (a + 1))] + (arc_reads[a] as u64);
+        price = price + total * (be32(s, base + Graph::ARC * a + 2) as u64);
+        a += 1;
+    }
+    price
+}
 
 // Puts a number into 2 bytes of the output, the higher one first.
 fn put16(out: &mut [u8], place: usize, v: u64)
