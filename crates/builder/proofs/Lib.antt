@@ -2,6 +2,7 @@
 pub mod SetupLaws
 pub mod SetupLawsReach
 pub mod SetupLawsLacking
+pub mod Coverable
 -- The laws that the builder's proofs cite.
 pub mod NetworkLaws
 pub mod NetworkLawsSearch
