@@ -5,3 +5,5 @@ pub mod NetworkLawsSettle
 pub mod NetworkLawsRaise
 pub mod NetworkLawsPush
 pub mod NetworkLawsCarry
+pub mod FinishLawsSlots
+pub mod Certificate

@@ -2,3 +2,4 @@ pub mod Network
 pub mod Slots
 pub mod Peel
 pub mod Build
+pub mod Finish

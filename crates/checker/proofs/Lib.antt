@@ -37,3 +37,4 @@ pub mod GraphRange
 pub mod Completeness
 pub mod HandedOut
 pub mod Determined
+pub mod CertifyLawsSlack
