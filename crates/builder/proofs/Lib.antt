@@ -1,3 +1,6 @@
+-- Laws that the proofs of functions cite.
+pub mod SetupLaws
+pub mod SetupLawsReach
 -- The laws that the builder's proofs cite.
 pub mod NetworkLaws
 pub mod NetworkLawsSearch

@@ -3,3 +3,4 @@ pub mod Slots
 pub mod Peel
 pub mod Build
 pub mod Finish
+pub mod Setup

@@ -9,3 +9,4 @@ pub struct Built {
 
 // A bare network and the flow of lowest cost in it: it knows nothing of graphs and reads.
 mod network;
+mod reach;
