@@ -1,25 +1,25 @@
 -- The links that a lowest-price cover may use, with what they must carry (MATHEMATICS.md section 5): an opening link for each useful start, a closing link
 -- for each useful end, and a link for each ask between useful vertices, which must carry its rest. Transport.antt gets them as edges and jobs.
-use Prim.Native.Nat.{ℕ, zero, suc, _+_, _*_, _-_, _/_, _≤_, _<_}
+use Prim.Native.Nat.{ℕ, suc, _+_, _*_, _≤_, _<_}
 use native.Mathlib.Omega.{arith}
 use native.Mathlib.Nat.{mul-zero, zero-mul, zero-add, add-zero}
 use mathlib.Core.Path.{_≡_, refl, sym, ap, ap₂, subst, _∙_}
 use mathlib.Core.List.{List, [], _∷_, _++_, map}
-use mathlib.Core.Bool.{Bool, true, false, cond, _&&_, _||_}
+use mathlib.Core.Bool.{Bool, true, false, cond, _&&_}
 use mathlib.Core.Logic.{_⊎_, inl, inr, _≢_}
 use lib.Dec.{T, eqb, eqb→eq, eqb-refl}
 use lib.ListN.{length, getD, length-append, length-map}
-use Rattle.mathematics.specs.Lists.{All, Distinct}
-use Rattle.mathematics.specs.Graph.{Vertex, Arc, Graph, noVertex, isStart, isEnd, hasArc, WellFormed}
-use Rattle.mathematics.specs.Cover.{Item, vert, arc, sameItem, oneIf, countOf, Ask, vertexAsks, arcAsk, asks}
+use Rattle.mathematics.specs.Lists.{All, Distinct, lastOf}
+use Rattle.mathematics.specs.Graph.{Vertex, Arc, Graph, noVertex, isStart, isEnd, WellFormed}
+use Rattle.mathematics.specs.Cover.{Item, vert, arc, sameItem, oneIf, Ask, vertexAsks, arcAsk, asks}
 use Rattle.mathematics.specs.Bound.{rest}
 use Rattle.mathematics.specs.Range.{OneOf, startCount, endCount, sumOfDemands}
-use Rattle.mathematics.specs.Reach.{fromStart, toEnd, useful}
-use Rattle.mathematics.proofs.Basics.{and-l, and-r, and-in, or-l, or-r, or-cases, all-among, all-from, all-append, all-map, all-weaken, among-map, among-left, among-right, is-true, is-false, test}
+use Rattle.mathematics.specs.Reach.{useful}
+use Rattle.mathematics.proofs.Basics.{and-l, and-r, and-in, all-among, all-append, all-map, all-weaken, among-map, among-left, among-right, is-true, is-false, test}
 use Rattle.mathematics.proofs.Reach.{joining-arc, start-below, end-below}
 use Rattle.mathematics.proofs.Items.{Known, asks-known}
-use Rattle.mathematics.proofs.Loads.{Load, sumOver, worth, one, passing, failing, worth-append, length-parts, all-passing, all-pass}
-use Rattle.mathematics.proofs.Links.{Link, opening, closing, inside, across, reading, inNode, outNode, linkFrom, linkTo, passes, opens, OfGraph}
+use Rattle.mathematics.proofs.Loads.{unequal, Load, sumOver, worth, one, passing, worth-append, length-parts, all-passing, all-pass}
+use Rattle.mathematics.proofs.Links.{Link, opening, closing, inside, across, reading, passes, opens, OfGraph}
 
 -- the link of an item
 abbrev pub linkOf : Item → Link
@@ -38,7 +38,7 @@ place-among v k (x ∷ xs) l h = go (test (eqb v k)) (place-among v (suc k) xs)
     go : T (eqb v k) ⊎ (T (eqb v k) → ⊥) → (suc k ≤ v → v < suc k + length xs → OneOf (places (suc k) xs) v) → OneOf (places k (x ∷ xs)) v
     go (inl t) more = inl (eqb→eq v k t)
     go (inr t) more =
-        let n : v ≢ k = λ e. t (subst (λ (m : ℕ). T (eqb v m)) e (eqb-refl v)) in
+        let n : v ≢ k = unequal v k t in
         inr (more (omega arith) (omega arith))
 
 -- no more numbers pass a test than vertices have the flag that it looks for
@@ -89,7 +89,7 @@ sum-passing t f (x ∷ xs) h = go (t x) refl (sum-passing t f xs (h .1))
 
 -- ---- no two asks are for one item
 
-same-item : (i j : Item) → T (sameItem i j) → i ≡ j
+pub same-item : (i j : Item) → T (sameItem i j) → i ≡ j
 same-item (vert a) (vert b) t = ap vert (eqb→eq a b t)
 same-item (vert a) (arc b c) t = absurd t
 same-item (arc a b) (vert c) t = absurd t
@@ -133,7 +133,8 @@ vertex-no-arc : {E : Type 0} (k : ℕ) (arcs : List (Arc E)) → All (λ j. vert
 vertex-no-arc k [] = tt
 vertex-no-arc k (a ∷ arcs) = (λ e. let z : _≡_ {A = ℕ} 0 1 = cc in omega arith, vertex-no-arc k arcs)
 
-vertices-no-arcs : {E : Type 0} (k : ℕ) (xs : List Vertex) (arcs : List (Arc E)) → All (λ i. All (λ j. i ≢ j) (itemsOf (map arcAsk arcs))) (itemsOf (vertexAsks k xs))
+vertices-no-arcs : {E : Type 0} (k : ℕ) (xs : List Vertex) (arcs : List (Arc E)) →
+    All (λ i. All (λ j. i ≢ j) (itemsOf (map arcAsk arcs))) (itemsOf (vertexAsks k xs))
 vertices-no-arcs k [] arcs = tt
 vertices-no-arcs k (x ∷ xs) arcs = (vertex-no-arc k arcs, vertices-no-arcs (suc k) xs arcs)
 
@@ -144,7 +145,8 @@ items-append (x ∷ xs) ys = ap (λ is. x .item ∷ is) (items-append xs ys)
 asks-distinct : {E : Type 0} (G : Graph E) → WellFormed G → Distinct (itemsOf (asks G))
 asks-distinct G g =
     rw (items-append (vertexAsks 0 (G .vertices)) (map arcAsk (G .arcs)))
-    (distinct-append (itemsOf (vertexAsks 0 (G .vertices))) (itemsOf (map arcAsk (G .arcs))) (vertices-distinct 0 (G .vertices)) (arcs-distinct (G .arcs) (g .once))
+    (distinct-append (itemsOf (vertexAsks 0 (G .vertices))) (itemsOf (map arcAsk (G .arcs))) (vertices-distinct 0 (G .vertices))
+    (arcs-distinct (G .arcs) (g .once))
     (vertices-no-arcs 0 (G .vertices) (G .arcs)))
 
 -- c of an ask, times whether it asks for i
@@ -170,6 +172,14 @@ one-counted c a (b ∷ bs) d (inr m) =
     (omega (arith, one-counted c a bs (d .1) m))
 
 -- ---- the links and what they must carry
+
+-- no link of a read, and nothing that an opening or closing link must carry
+abbrev pub Unasked : Link → ℕ → Type 0
+Unasked (opening v) k = k ≡ 0
+Unasked (closing v) k = k ≡ 0
+Unasked (inside v) k = Unit {0}
+Unasked (across u v) k = Unit {0}
+Unasked (reading r) k = ⊥
 
 module _ {E : Type 0} (G : Graph E) where
   abbrev pub usefulItem : Item → Bool
@@ -221,8 +231,10 @@ module _ {E : Type 0} (G : Graph E) where
         asks-length,
         start-count (G .vertices),
         end-count (G .vertices),
-        few-places (λ x. x .start) usefulStart 0 (G .vertices) (λ j t. subst (λ (n : ℕ). T (isStart G n)) (zero-add j) (and-l (isStart G (0 + j)) (useful G (0 + j)) t)),
-        few-places (λ x. x .end) usefulEnd 0 (G .vertices) (λ j t. subst (λ (n : ℕ). T (isEnd G n)) (zero-add j) (and-l (isEnd G (0 + j)) (useful G (0 + j)) t)),
+        few-places (λ x. x .start) usefulStart 0 (G .vertices)
+            (λ j t. subst (λ (n : ℕ). T (isStart G n)) (zero-add j) (and-l (isStart G (0 + j)) (useful G (0 + j)) t)),
+        few-places (λ x. x .end) usefulEnd 0 (G .vertices)
+            (λ j t. subst (λ (n : ℕ). T (isEnd G n)) (zero-add j) (and-l (isEnd G (0 + j)) (useful G (0 + j)) t)),
       )
     where
       vertices-length : (k : ℕ) (xs : List Vertex) → length (vertexAsks k xs) ≡ length xs
@@ -230,11 +242,18 @@ module _ {E : Type 0} (G : Graph E) where
       vertices-length k (x ∷ xs) = ap suc (vertices-length (suc k) xs)
 
       asks-length : length (asks G) ≡ length (G .vertices) + length (G .arcs)
-      asks-length = omega (arith, length-append (vertexAsks 0 (G .vertices)) (map arcAsk (G .arcs)), vertices-length 0 (G .vertices), length-map (G .arcs) (arcAsk {E = E}))
+      asks-length =
+          omega (
+            arith,
+            length-append (vertexAsks 0 (G .vertices)) (map arcAsk (G .arcs)),
+            vertices-length 0 (G .vertices),
+            length-map (G .arcs) (arcAsk {E = E}),
+          )
 
   -- ---- what it is worth
 
-  ask-worth : (rs : List (List ℕ)) (g : Link → ℕ) (bs : List Ask) → worth g (map (askLoad rs) bs) ≡ sumOver (λ b. rest rs (b .item) (b .demand) * g (linkOf (b .item))) bs
+  ask-worth : (rs : List (List ℕ)) (g : Link → ℕ) (bs : List Ask) →
+      worth g (map (askLoad rs) bs) ≡ sumOver (λ b. rest rs (b .item) (b .demand) * g (linkOf (b .item))) bs
   ask-worth rs g [] = refl
   ask-worth rs g (b ∷ bs) = ap (λ (n : ℕ). rest rs (b .item) (b .demand) * g (linkOf (b .item)) + n) (ask-worth rs g bs)
 
@@ -242,7 +261,8 @@ module _ {E : Type 0} (G : Graph E) where
   empty-worth mk g [] = refl
   empty-worth mk g (v ∷ vs) = rw zero-mul (omega (arith, empty-worth mk g vs))
 
-  base-worth : (rs : List (List ℕ)) (g : Link → ℕ) → worth g (base rs) ≡ sumOver (λ b. rest rs (b .item) (b .demand) * g (linkOf (b .item))) (passing usefulAsk (asks G))
+  base-worth : (rs : List (List ℕ)) (g : Link → ℕ) →
+      worth g (base rs) ≡ sumOver (λ b. rest rs (b .item) (b .demand) * g (linkOf (b .item))) (passing usefulAsk (asks G))
   unfolding base
   base-worth rs g =
       omega (
@@ -293,7 +313,9 @@ module _ {E : Type 0} (G : Graph E) where
       on-link i (vert v) = add-zero (oneIf (sameItem i (vert v)))
       on-link i (arc u v) = add-zero (oneIf (sameItem i (arc u v)))
 
-      same-sum : (bs : List Ask) → sumOver (λ b. rest rs (b .item) (b .demand) * passes (a .item) (linkOf (b .item))) bs ≡ sumOver (counting (λ b. rest rs (b .item) (b .demand)) (a .item)) bs
+      same-sum : (bs : List Ask) →
+          sumOver (λ b. rest rs (b .item) (b .demand) * passes (a .item) (linkOf (b .item))) bs ≡
+          sumOver (counting (λ b. rest rs (b .item) (b .demand)) (a .item)) bs
       same-sum [] = refl
       same-sum (b ∷ bs) = ap₂ (λ (x y : ℕ). rest rs (b .item) (b .demand) * x + y) (on-link (a .item) (b .item)) (same-sum bs)
 
@@ -310,29 +332,31 @@ module _ {E : Type 0} (G : Graph E) where
   Useful (closing v) = T (useful G v)
   Useful (inside v) = T (useful G v)
   Useful (across u v) = T (useful G u) × T (useful G v)
-  Useful (reading r) = ⊥
+  Useful (reading r) = T (useful G (getD r 0 0)) × T (useful G (lastOf 0 r))
 
-  pub base-of-graph : (rs : List (List ℕ)) → All (λ l. OfGraph G (l .what) × Useful (l .what)) (base rs)
+  -- a link of the graph between useful vertices; an opening or closing link need carry nothing
+  abbrev pub OfBase : Load Link → Type 0
+  OfBase l = OfGraph G (l .what) × Useful (l .what) × Unasked (l .what) (l .amount)
+
+  pub base-of-graph : (rs : List (List ℕ)) → All OfBase (base rs)
   unfolding base
   base-of-graph rs =
-      all-append Fine openLoads (closeLoads ++ askLoads rs)
-      (all-map Fine emptyOpening (passing usefulStart (places 0 (G .vertices)))
-      (all-weaken (λ v. T (usefulStart v)) (λ v. T (isStart G v) × T (useful G v)) (passing usefulStart (places 0 (G .vertices)))
-      (λ v h. (and-l (isStart G v) (useful G v) h, and-r (isStart G v) (useful G v) h)) (all-pass usefulStart (places 0 (G .vertices)))))
-      (all-append Fine closeLoads (askLoads rs)
-      (all-map Fine emptyClosing (passing usefulEnd (places 0 (G .vertices)))
-      (all-weaken (λ v. T (usefulEnd v)) (λ v. T (isEnd G v) × T (useful G v)) (passing usefulEnd (places 0 (G .vertices)))
-      (λ v h. (and-l (isEnd G v) (useful G v) h, and-r (isEnd G v) (useful G v) h)) (all-pass usefulEnd (places 0 (G .vertices)))))
-      (all-map Fine (askLoad rs) (passing usefulAsk (asks G))
-      (all-weaken (λ a. Known G (a .item) × T (usefulAsk a)) (λ a. Fine (askLoad rs a)) (passing usefulAsk (asks G)) (λ a h. fine (a .item) (h .0) (h .1))
+      all-append OfBase openLoads (closeLoads ++ askLoads rs)
+      (all-map OfBase emptyOpening (passing usefulStart (places 0 (G .vertices)))
+      (all-weaken (λ v. T (usefulStart v)) (λ v. T (isStart G v) × T (useful G v) × (0 ≡ 0)) (passing usefulStart (places 0 (G .vertices)))
+      (λ v h. (and-l (isStart G v) (useful G v) h, and-r (isStart G v) (useful G v) h, refl)) (all-pass usefulStart (places 0 (G .vertices)))))
+      (all-append OfBase closeLoads (askLoads rs)
+      (all-map OfBase emptyClosing (passing usefulEnd (places 0 (G .vertices)))
+      (all-weaken (λ v. T (usefulEnd v)) (λ v. T (isEnd G v) × T (useful G v) × (0 ≡ 0)) (passing usefulEnd (places 0 (G .vertices)))
+      (λ v h. (and-l (isEnd G v) (useful G v) h, and-r (isEnd G v) (useful G v) h, refl)) (all-pass usefulEnd (places 0 (G .vertices)))))
+      (all-map OfBase (askLoad rs) (passing usefulAsk (asks G))
+      (all-weaken (λ a. Known G (a .item) × T (usefulAsk a)) (λ a. OfBase (askLoad rs a)) (passing usefulAsk (asks G))
+      (λ a h. fine (a .item) (rest rs (a .item) (a .demand)) (h .0) (h .1))
       (all-passing usefulAsk (λ a. Known G (a .item)) (asks G) (asks-known G)))))
     where
-      Fine : Load Link → Type 0
-      Fine l = OfGraph G (l .what) × Useful (l .what)
-
-      fine : (i : Item) → Known G i → T (usefulItem i) → OfGraph G (linkOf i) × Useful (linkOf i)
-      fine (vert v) k u = (k, u)
-      fine (arc u v) k h = (k, (and-l (useful G u) (useful G v) h, and-r (useful G u) (useful G v) h))
+      fine : (i : Item) (k : ℕ) → Known G i → T (usefulItem i) → OfGraph G (linkOf i) × Useful (linkOf i) × Unasked (linkOf i) k
+      fine (vert v) n k u = (k, u, tt)
+      fine (arc u v) n k h = (k, (and-l (useful G u) (useful G v) h, and-r (useful G u) (useful G v) h), tt)
 
   vertex-ask : (v k : ℕ) (xs : List Vertex) → k ≤ v → v < k + length xs → (a : Ask) × OneOf (vertexAsks k xs) a × (a .item ≡ vert v)
   vertex-ask v k [] l h = absurd (omega arith)
@@ -342,7 +366,7 @@ module _ {E : Type 0} (G : Graph E) where
           (a : Ask) × OneOf (vertexAsks k (x ∷ xs)) a × (a .item ≡ vert v)
       go (inl t) more = (record { item = vert k; demand = x .demand }, inl refl, ap vert (eqb→eq k v t))
       go (inr t) more =
-          let n : k ≢ v = λ e. t (subst (λ (m : ℕ). T (eqb k m)) e (eqb-refl k)) in
+          let n : k ≢ v = unequal k v t in
           let (a, m, e) = more (omega arith) (omega arith) in
           (a, inr m, e)
 
@@ -361,7 +385,8 @@ module _ {E : Type 0} (G : Graph E) where
     0,
     among-left (emptyOpening v) openLoads (closeLoads ++ askLoads rs)
         (among-map emptyOpening v (passing usefulStart (places 0 (G .vertices)))
-        (among-passing usefulStart (places 0 (G .vertices)) v (place-among v 0 (G .vertices) (omega arith) (omega (arith, start-below G v s))) (and-in (isStart G v) (useful G v) s u))),
+        (among-passing usefulStart (places 0 (G .vertices)) v (place-among v 0 (G .vertices) (omega arith) (omega (arith, start-below G v s)))
+        (and-in (isStart G v) (useful G v) s u))),
   )
 
   pub has-closing : (rs : List (List ℕ)) (v : ℕ) → T (isEnd G v) → T (useful G v) → (k : ℕ) × OneOf (base rs) (record { amount = k; what = closing v })
@@ -371,7 +396,8 @@ module _ {E : Type 0} (G : Graph E) where
     among-right (emptyClosing v) openLoads (closeLoads ++ askLoads rs)
         (among-left (emptyClosing v) closeLoads (askLoads rs)
         (among-map emptyClosing v (passing usefulEnd (places 0 (G .vertices)))
-        (among-passing usefulEnd (places 0 (G .vertices)) v (place-among v 0 (G .vertices) (omega arith) (omega (arith, end-below G v s))) (and-in (isEnd G v) (useful G v) s u)))),
+        (among-passing usefulEnd (places 0 (G .vertices)) v (place-among v 0 (G .vertices) (omega arith) (omega (arith, end-below G v s)))
+        (and-in (isEnd G v) (useful G v) s u)))),
   )
 
   pub has-link : (rs : List (List ℕ)) (i : Item) → Known G i → T (usefulItem i) → (k : ℕ) × OneOf (base rs) (record { amount = k; what = linkOf i })
@@ -381,5 +407,8 @@ module _ {E : Type 0} (G : Graph E) where
       let l : OneOf (openLoads ++ (closeLoads ++ askLoads rs)) (askLoad rs a) =
       among-right (askLoad rs a) openLoads (closeLoads ++ askLoads rs)
       (among-right (askLoad rs a) closeLoads (askLoads rs)
-      (among-map (askLoad rs) a (passing usefulAsk (asks G)) (among-passing usefulAsk (asks G) a m (subst (λ (j : Item). T (usefulItem j)) (sym e) u)))) in
-      (rest rs (a .item) (a .demand), subst (λ (j : Item). OneOf (openLoads ++ (closeLoads ++ askLoads rs)) (record { amount = rest rs (a .item) (a .demand); what = linkOf j })) e l)
+      (among-map (askLoad rs) a (passing usefulAsk (asks G)) (among-passing usefulAsk (asks G) a m (subst (λ (j : Item). T (usefulItem j)) (sym e) u)))) in (
+        rest rs (a .item) (a .demand),
+        subst (λ (j : Item). OneOf (openLoads ++ (closeLoads ++ askLoads rs))
+            (record { amount = rest rs (a .item) (a .demand); what = linkOf j })) e l,
+      )

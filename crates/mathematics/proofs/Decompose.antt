@@ -1,25 +1,25 @@
 -- From a flow to weighted paths (MATHEMATICS.md section 6): loads on the links of a graph that balance, together with one unit for each read, are
 -- the sum of weighted paths from starts to ends, no more of them than there are loads and reads, which hold every read.
-use Prim.Native.Nat.{ℕ, zero, suc, _+_, _*_, _≤_, _<_}
+use Prim.Native.Nat.{ℕ, zero, suc, _+_, _*_, _≤_}
 use native.Mathlib.Omega.{arith}
-use native.Mathlib.Nat.{one-mul, mul-zero, zero-add}
-use mathlib.Core.Path.{_≡_, refl, sym, ap, ap₂, subst, _∙_}
+use native.Mathlib.Nat.{one-mul, mul-zero, zero-mul, zero-add}
+use mathlib.Core.Path.{_≡_, refl, sym, ap, subst, _∙_}
 use mathlib.Core.List.{List, [], _∷_, _++_, map}
 use mathlib.Core.Bool.{Bool, true, false}
-use mathlib.Core.Logic.{_⊎_, inl, inr}
+use mathlib.Core.Logic.{inl, inr}
 use lib.Dec.{T}
 use lib.ListN.{length, length-append, length-map}
 use Rattle.mathematics.specs.Lists.{All, someHolds}
-use Rattle.mathematics.specs.Graph.{Arc, Graph, isPath, linked, Rises}
-use Rattle.mathematics.specs.Cover.{Item, oneIf, countOf, through, Weighted, total, totalWeight, paths}
+use Rattle.mathematics.specs.Graph.{Graph, isPath, Rises}
+use Rattle.mathematics.specs.Cover.{Item, oneIf, through, Weighted, total, totalWeight, paths}
 use Rattle.mathematics.specs.Bound.{readsThrough}
 use Rattle.mathematics.specs.Range.{OneOf}
-use Rattle.mathematics.proofs.Basics.{all-among, all-from, all-append, all-map, all-weaken, is-true, among-map, among-right}
+use Rattle.mathematics.proofs.Basics.{all-from, all-append, all-map, all-weaken, is-true, among-map, among-right}
 use Rattle.mathematics.proofs.Merge.{samePath, same-path-equal, same-path-self}
-use Rattle.mathematics.proofs.Parts.{Within, held-some}
+use Rattle.mathematics.proofs.Parts.{held-some}
 use Rattle.mathematics.proofs.Loads.{Load, sumOver, worth, one, worth-append, worth-same}
-use Rattle.mathematics.proofs.Sweep.{Chain, Rising, Balanced, Split, split}
-use Rattle.mathematics.proofs.Links.{Link, opening, closing, inside, across, reading, inNode, linkFrom, linkTo, linkItems, passes, opens, pathOf, reading-within, OfGraph, Used, Leads, AtEnds, IsWhole, whole-walk, link-rises}
+use Rattle.mathematics.proofs.Sweep.{Rising, Balanced, Split, split}
+use Rattle.mathematics.proofs.Links.{Link, opening, closing, inside, across, reading, inNode, linkFrom, linkTo, passes, opens, pathOf, reading-within, OfGraph, Used, Leads, AtEnds, IsWhole, whole-walk, link-rises}
 
 -- one unit of a read, of each read
 abbrev pub readLoad : List ℕ → Load Link
@@ -41,13 +41,20 @@ sum-some {A} g (x ∷ xs) h = go (g x) refl (sum-some g xs)
     go zero e more = let (y, m, k) = more (omega arith) in (y, inr m, k)
     go (suc n) e more = (x, inl refl, omega arith)
 
-worth-some : {A : Type 0} (g : A → ℕ) (xs : List (Load A)) → 1 ≤ worth g xs → (x : Load A) × OneOf xs x × (1 ≤ g (x .what))
+pub worth-some : {A : Type 0} (g : A → ℕ) (xs : List (Load A)) → 1 ≤ worth g xs → (x : Load A) × OneOf xs x × (1 ≤ x .amount) × (1 ≤ g (x .what))
 worth-some g [] h = absurd (omega arith)
-worth-some {A} g (x ∷ xs) h = go (g (x .what)) refl (worth-some g xs)
+worth-some {A} g (x ∷ xs) h = go (x .amount) (g (x .what)) refl refl (worth-some g xs)
   where
-    go : (n : ℕ) → g (x .what) ≡ n → (1 ≤ worth g xs → (y : Load A) × OneOf xs y × (1 ≤ g (y .what))) → (y : Load A) × OneOf (x ∷ xs) y × (1 ≤ g (y .what))
-    go zero e more = let (y, m, k) = more (subst (λ (n : ℕ). 1 ≤ n) (rw (e, mul-zero, zero-add)) h) in (y, inr m, k)
-    go (suc n) e more = (x, inl refl, omega arith)
+    Some : List (Load A) → Type 0
+    Some ys = (y : Load A) × OneOf ys y × (1 ≤ y .amount) × (1 ≤ g (y .what))
+
+    later : worth g (x ∷ xs) ≡ worth g xs → (1 ≤ worth g xs → Some xs) → Some (x ∷ xs)
+    later e more = let (y, m, j, k) = more (subst (λ (n : ℕ). 1 ≤ n) e h) in (y, inr m, j, k)
+
+    go : (m n : ℕ) → x .amount ≡ m → g (x .what) ≡ n → (1 ≤ worth g xs → Some xs) → Some (x ∷ xs)
+    go zero n d e more = later (rw (d, zero-mul, zero-add) refl) more
+    go (suc m) zero d e more = later (rw (e, mul-zero, zero-add) refl) more
+    go (suc m) (suc n) d e more = (x, inl refl, omega arith, omega arith)
 
 one-among : {A : Type 0} (g : A → ℕ) (xs : List (Load A)) (x : Load A) → OneOf xs x → x .amount * g (x .what) ≤ worth g xs
 one-among g [] x m = absurd m
@@ -122,12 +129,16 @@ module _ {E : Type 0} (G : Graph E) (Opens Closes : ℕ → Type 0) where
         (all-weaken (λ r. OfGraph G (reading r)) (λ r. OfGraph G (reading r) × (1 ≤ 1 → Unit {0})) rs (λ r h. (h, λ u. tt)) t))
 
     abbrev Walks : Type 0
-    Walks = Split linkFrom (linkTo (inNode (length (G .vertices)))) (λ l. OfGraph G l × Used Opens Closes l) (inNode (length (G .vertices))) (loads ++ readLoads rs)
+    Walks =
+        Split linkFrom (linkTo (inNode (length (G .vertices)))) (λ l. OfGraph G l × Used Opens Closes l) (inNode (length (G .vertices))) (loads ++ readLoads rs)
 
     walks-of : All Sound (loads ++ readLoads rs) → AllBalanced G (loads ++ readLoads rs) → Walks
     walks-of s b =
-        split linkFrom (linkTo (inNode (length (G .vertices)))) (λ l. OfGraph G l × Used Opens Closes l) (inNode (length (G .vertices))) (omega arith) (loads ++ readLoads rs)
-        (all-weaken Sound (Rising linkFrom (linkTo (inNode (length (G .vertices)))) (λ l. OfGraph G l × Used Opens Closes l) (inNode (length (G .vertices)))) (loads ++ readLoads rs)
+        split linkFrom (linkTo (inNode (length (G .vertices)))) (λ l. OfGraph G l × Used Opens Closes l) (inNode (length (G .vertices))) (omega arith)
+        (loads ++ readLoads rs)
+        (all-weaken Sound
+        (Rising linkFrom (linkTo (inNode (length (G .vertices)))) (λ l. OfGraph G l × Used Opens Closes l) (inNode (length (G .vertices))))
+        (loads ++ readLoads rs)
         (λ l h. let r = link-rises G Opens Closes rises (l .what) (h .0) in (r .0, r .1, λ k. (h .0, h .1 k))) s) b
 
     -- each read is on one of the walks
@@ -139,7 +150,7 @@ module _ {E : Type 0} (G : Graph E) (Opens Closes : ℕ → Type 0) where
           reading-is r,
           one-among (isReading r) (loads ++ readLoads rs) (readLoad r) (among-right _ loads (readLoads rs) (among-map readLoad r rs m)),
         ) in
-        let (x, n, k) = worth-some (sumOver (isReading r)) (w .walks) (rw (w .same (isReading r)) some) in
+        let (x, n, _, k) = worth-some (sumOver (isReading r)) (w .walks) (rw (w .same (isReading r)) some) in
         let (l, o, j) = sum-some (isReading r) (x .what) k in
         held-some (paths (map asWeighted (w .walks))) r (pathOf (x .what))
         (among-map (λ (w : Weighted). w .path) (asWeighted x) (map asWeighted (w .walks)) (among-map asWeighted x (w .walks) n))
@@ -149,9 +160,13 @@ module _ {E : Type 0} (G : Graph E) (Opens Closes : ℕ → Type 0) where
     from-walks w whole =
         record {
           cover = map asWeighted (w .walks);
-          are-paths = all-map (λ u. T (isPath G (u .path))) asWeighted (w .walks) (all-weaken Whole (λ x. T (isPath G (pathOf (x .what)))) (w .walks) (λ x h. h .is-path) whole);
+          are-paths =
+              all-map (λ u. T (isPath G (u .path))) asWeighted (w .walks)
+              (all-weaken Whole (λ x. T (isPath G (pathOf (x .what)))) (w .walks) (λ x h. h .is-path) whole);
           weights = all-map (λ u. 1 ≤ u .weight) asWeighted (w .walks) (w .amounts);
-          at-ends = all-map (λ u. AtEnds Opens Closes (u .path)) asWeighted (w .walks) (all-weaken Whole (λ x. AtEnds Opens Closes (pathOf (x .what))) (w .walks) (λ x h. h .at-ends) whole);
+          at-ends =
+              all-map (λ u. AtEnds Opens Closes (u .path)) asWeighted (w .walks)
+              (all-weaken Whole (λ x. AtEnds Opens Closes (pathOf (x .what))) (w .walks) (λ x h. h .at-ends) whole);
           totals = λ i.
               total-worth i (w .walks) ∙
               (sym (worth-same Whole (sumOver (passes i)) (λ ls. through i (pathOf ls)) (w .walks) whole (λ x h. h .items i)) ∙
@@ -159,7 +174,14 @@ module _ {E : Type 0} (G : Graph E) (Opens Closes : ℕ → Type 0) where
           held = all-from _ rs (walk-reads w);
           few = omega (arith, w .few, length-map (w .walks) asWeighted, length-append loads (readLoads rs), length-map rs readLoad);
           copies =
-              omega (arith, weight-worth (w .walks), worth-same Whole (sumOver opens) one (w .walks) whole (λ x h. h .opened), w .same opens, worth-append opens loads (readLoads rs), opens-reads rs);
+              omega (
+                arith,
+                weight-worth (w .walks),
+                worth-same Whole (sumOver opens) one (w .walks) whole (λ x h. h .opened),
+                w .same opens,
+                worth-append opens loads (readLoads rs),
+                opens-reads rs,
+              );
         }
       where
         Whole : Load (List Link) → Type 0

@@ -1,6 +1,6 @@
 -- Document 01: "Drop a read that is a consecutive part of another. Of equal reads keep the lowest numbered." Each read stands in one that is
 -- kept, and no kept one stands in another.
-use Prim.Native.Nat.{ℕ, zero, suc, _+_, _≤_, _<_}
+use Prim.Native.Nat.{ℕ, suc, _≤_, _<_}
 use native.Mathlib.Omega.{arith}
 use mathlib.Core.Path.{_≡_, refl, sym, ap, subst, _∙_}
 use mathlib.Core.List.{List, [], _∷_, _++_, append-nil}
@@ -11,10 +11,11 @@ use lib.ListN.{length, length-append}
 use Rattle.mathematics.specs.Lists.{All, holds, someHolds}
 use Rattle.mathematics.specs.Range.{OneOf}
 use Rattle.mathematics.specs.Prepare.{someLonger, dropParts}
-use Rattle.mathematics.proofs.Basics.{and-l, and-r, and-in, or-cases, or-l, or-r, all-among, all-from, all-weaken, among-left, among-right, among-cases}
+use Rattle.mathematics.proofs.Basics.{and-l, and-r, and-in, or-cases, or-l, or-r, all-among, all-weaken, among-left, among-right, among-cases}
 use Rattle.mathematics.proofs.WithReads.{Pairwise}
 use Rattle.mathematics.proofs.Parts.{Within, Held, within-holds, holds-within, some-held, held-some, held-trans, within-self}
 use Rattle.mathematics.proofs.Overlap.{Clear}
+use Rattle.mathematics.proofs.Taken.{all-both}
 
 -- what the two tests of one read say: it goes, or it stays
 abbrev goes : List (List ℕ) → List ℕ → List (List ℕ) → Bool
@@ -39,11 +40,15 @@ dropped-fewer before [] = omega arith
 dropped-fewer before (r ∷ after) =
     pick-fewer (goes before r after) r (dropParts (before ++ (r ∷ [])) after) (length after) (dropped-fewer (before ++ (r ∷ [])) after)
 
+longer-here : (r p : List ℕ) → T (ltb (length r) (length p) && holds p r) → Within r p × (length r < length p)
+longer-here r p t =
+    (holds-within p r (and-r (ltb (length r) (length p)) (holds p r) t), ltb→lt (length r) (length p) (and-l (ltb (length r) (length p)) (holds p r) t))
+
 longer-one : (ps : List (List ℕ)) (r : List ℕ) → T (someLonger ps r) → (p : List ℕ) × OneOf ps p × Within r p × (length r < length p)
 longer-one [] r h = absurd h
 longer-one (p ∷ ps) r h =
     elim (or-cases (ltb (length r) (length p) && holds p r) (someLonger ps r) h) [
-      | inl t ↦ (p, inl refl, holds-within p r (and-r (ltb (length r) (length p)) (holds p r) t), ltb→lt (length r) (length p) (and-l (ltb (length r) (length p)) (holds p r) t))
+      | inl t ↦ let u = longer-here r p t in (p, inl refl, u .0, u .1)
       | inr t ↦ let u = longer-one ps r t in (u .0, inr (u .1), u .2, u .3)
     ]
 
@@ -51,12 +56,14 @@ longer-one (p ∷ ps) r h =
 abbrev NotLonger : List ℕ → List ℕ → Type 0
 NotLonger r p = Within r p → length r < length p → ⊥
 
+not-longer : (r p : List ℕ) → (T (ltb (length r) (length p) && holds p r) → ⊥) → NotLonger r p
+not-longer r p h w l = h (and-in (ltb (length r) (length p)) (holds p r) (lt→ltb (length r) (length p) l) (within-holds p r w))
+
 none-longer : (ps : List (List ℕ)) (r : List ℕ) → (T (someLonger ps r) → ⊥) → All (NotLonger r) ps
 none-longer [] r h = tt
-none-longer (p ∷ ps) r h = (
-  λ w l. h (or-l (ltb (length r) (length p) && holds p r) (someLonger ps r) (and-in (ltb (length r) (length p)) (holds p r) (lt→ltb (length r) (length p) l) (within-holds p r w))),
-  none-longer ps r (λ t. h (or-r (ltb (length r) (length p) && holds p r) (someLonger ps r) t)),
-)
+none-longer (p ∷ ps) r h =
+    let here = ltb (length r) (length p) && holds p r in
+    (not-longer r p (λ t. h (or-l here (someLonger ps r) t)), none-longer ps r (λ t. h (or-r here (someLonger ps r) t)))
 
 within-shorter : (r p : List ℕ) → Within r p → length r ≤ length p
 within-shorter r p w = omega (arith, ap length (w .2) ∙ length-append (w .0) (r ++ w .1), length-append r (w .1))
@@ -85,7 +92,8 @@ past before kept r s (inl (b, m, w)) =
 past before kept r s (inr h) = inr (inr h)
 
 -- a read that goes stands in one before or in one that is kept of those behind it
-gone-stays : (before after kept : List (List ℕ)) (r : List ℕ) → All (Stays (before ++ (r ∷ [])) kept) after → T (goes before r after) → Stays before kept r
+gone-stays : (before after kept : List (List ℕ)) (r : List ℕ) → All (Stays (before ++ (r ∷ [])) kept) after → T (goes before r after) →
+    Stays before kept r
 gone-stays before after kept r ih t =
     elim (or-cases (someHolds before r) (someLonger after r) t) [
       | inl h ↦ inl (some-held before r h)
@@ -108,7 +116,8 @@ pick-keeps true before kept r s h = h
 pick-keeps false before kept r s (inl h) = inl h
 pick-keeps false before kept r s (inr (p, m, w)) = inr (p, inr m, w)
 
-stays-here : (t : Bool) (before kept : List (List ℕ)) (r s : List ℕ) → Stays before (cond t kept (r ∷ kept)) r → Stays (before ++ (r ∷ [])) kept s → Stays before (cond t kept (r ∷ kept)) s
+stays-here : (t : Bool) (before kept : List (List ℕ)) (r s : List ℕ) → Stays before (cond t kept (r ∷ kept)) r →
+    Stays (before ++ (r ∷ [])) kept s → Stays before (cond t kept (r ∷ kept)) s
 stays-here t before kept r s hr hs =
     elim (past before kept r s hs) [
       | inl w ↦ stays-trans before (cond t kept (r ∷ kept)) s r w hr
@@ -148,19 +157,20 @@ clear-kept before r s n l = (λ w. not-in (same w), not-in)
     same : Within r s → Within s r
     same w = subst (Within s) (sym (within-same r s (w .0) (w .1) (w .2) (omega (arith, l w)))) (within-self s)
 
-pick-clear : (t : Bool) (r : List ℕ) (rest : List (List ℕ)) → ((T t → ⊥) → All (Clear r) rest) → Pairwise Clear rest → Pairwise Clear (cond t rest (r ∷ rest))
+pick-clear : (t : Bool) (r : List ℕ) (rest : List (List ℕ)) → ((T t → ⊥) → All (Clear r) rest) → Pairwise Clear rest →
+    Pairwise Clear (cond t rest (r ∷ rest))
 pick-clear true r rest p h = h
 pick-clear false r rest p h = (p (λ n. n), h)
 
 dropped-clear-from : (before after : List (List ℕ)) → Pairwise Clear (dropParts before after)
 dropped-clear-from before [] = tt
 dropped-clear-from before (r ∷ after) =
-    let kept = dropParts (before ++ (r ∷ [])) after in
+    let upTo : List (List ℕ) = before ++ (r ∷ []) in
+    let kept : List (List ℕ) = dropParts upTo after in
     pick-clear (goes before r after) r kept
-    (λ n. all-from (Clear r) kept (λ s m. clear-kept before r s
-    (all-among (λ s. Held (before ++ (r ∷ [])) s → ⊥) kept s (kept-apart (before ++ (r ∷ [])) after) m)
-    (all-among (NotLonger r) kept s (dropped-all (NotLonger r) (before ++ (r ∷ [])) after (none-longer after r (λ t. n (or-r (someHolds before r) (someLonger after r) t)))) m)))
-    (dropped-clear-from (before ++ (r ∷ [])) after)
+    (λ n. all-both (λ s. Held upTo s → ⊥) (NotLonger r) (Clear r) kept (clear-kept before r) (kept-apart upTo after)
+    (dropped-all (NotLonger r) upTo after (none-longer after r (λ t. n (or-r (someHolds before r) (someLonger after r) t)))))
+    (dropped-clear-from upTo after)
 
 -- no kept read stands in another
 pub dropped-clear : (rs : List (List ℕ)) → Pairwise Clear (dropParts [] rs)

@@ -80,14 +80,16 @@ pub cost-own : (P : Prices) (arcs : List (Arc (P .El))) (a : Arc (P .El)) (u v :
     T (joins a u v) → costOf P arcs u v ≡ a .cost
 cost-own P [] a u v d m t = absurd m
 cost-own P (b ∷ arcs) a u v d (inl e) t =
-    ap (λ x. cond x (b .cost) (costOf P arcs u v)) (is-true (joins b u v) (subst (λ (x : Arc (P .El)). T (joins x u v)) e t)) ∙ ap (λ (x : Arc (P .El)). x .cost) (sym e)
+    ap (λ x. cond x (b .cost) (costOf P arcs u v)) (is-true (joins b u v) (subst (λ (x : Arc (P .El)). T (joins x u v)) e t)) ∙
+    ap (λ (x : Arc (P .El)). x .cost) (sym e)
 cost-own P (b ∷ arcs) a u v d (inr m) t =
     ap (λ x. cond x (b .cost) (costOf P arcs u v))
     (is-false (joins b u v)
     (λ s. all-among (λ (x : Arc (P .El)). T (joins x u v) → ⊥) arcs a (others-differ b arcs u v (d .0) s) m t))
     ∙ cost-own P arcs a u v (d .1) m t
 
-vertex-asks-known : {E : Type 0} (G : Graph E) (k : ℕ) (xs : List Vertex) → k + length xs ≤ length (G .vertices) → All (λ a. Known G (a .item)) (vertexAsks k xs)
+vertex-asks-known : {E : Type 0} (G : Graph E) (k : ℕ) (xs : List Vertex) → k + length xs ≤ length (G .vertices) →
+    All (λ a. Known G (a .item)) (vertexAsks k xs)
 vertex-asks-known G k [] h = tt
 vertex-asks-known G k (x ∷ xs) h = (omega arith, vertex-asks-known G (suc k) xs (omega arith))
 
@@ -134,7 +136,8 @@ module _ (P : Prices) (L : Ordered P) (f : Item → P .El) where
 
   hit-later : (j : Item) (a : Ask) (more : List Ask) → (T (sameItem (a .item) j) → ⊥) → sumBy P (hit P f j) (a ∷ more) ≡ sumBy P (hit P f j) more
   hit-later j a more n =
-      ap (λ x. P .add x (sumBy P (hit P f j) more)) (miss (sameItem (a .item) j) (f (a .item)) (is-false (sameItem (a .item) j) n)) ∙ nil-add P L (sumBy P (hit P f j) more)
+      ap (λ x. P .add x (sumBy P (hit P f j) more)) (miss (sameItem (a .item) j) (f (a .item)) (is-false (sameItem (a .item) j) n)) ∙
+      nil-add P L (sumBy P (hit P f j) more)
 
   vertex-hit : (v k : ℕ) (xs : List Vertex) → k ≤ v → v < k + length xs → sumBy P (hit P f (vert v)) (vertexAsks k xs) ≡ f (vert v)
   vertex-hit v k [] h l = absurd (omega arith)
@@ -143,7 +146,8 @@ module _ (P : Prices) (L : Ordered P) (f : Item → P .El) where
       first : Ask
       first = record { item = vert k; demand = x .demand }
 
-      at : T (eqb k v) ⊎ (T (eqb k v) → ⊥) → (suc k ≤ v → v < suc k + length xs → sumBy P (hit P f (vert v)) (vertexAsks (suc k) xs) ≡ f (vert v)) → sumBy P (hit P f (vert v)) (vertexAsks k (x ∷ xs)) ≡ f (vert v)
+      at : T (eqb k v) ⊎ (T (eqb k v) → ⊥) → (suc k ≤ v → v < suc k + length xs → sumBy P (hit P f (vert v)) (vertexAsks (suc k) xs) ≡ f (vert v)) →
+          sumBy P (hit P f (vert v)) (vertexAsks k (x ∷ xs)) ≡ f (vert v)
       at (inl t) more =
           let e = eqb→eq k v t in
           hit-first (vert v) first (vertexAsks (suc k) xs) t (vertices-differ v (suc k) xs (omega arith)) ∙ ap (λ n. f (vert n)) e
@@ -156,7 +160,8 @@ module _ (P : Prices) (L : Ordered P) (f : Item → P .El) where
   arc-hit [] u v d t = absurd t
   arc-hit {E} (a ∷ arcs) u v d t = at (test (joins a u v)) (arc-hit arcs u v (d .1))
     where
-      at : T (joins a u v) ⊎ (T (joins a u v) → ⊥) → (T (hasArc arcs u v) → sumBy P (hit P f (arc u v)) (map arcAsk arcs) ≡ f (arc u v)) → sumBy P (hit P f (arc u v)) (map arcAsk (a ∷ arcs)) ≡ f (arc u v)
+      at : T (joins a u v) ⊎ (T (joins a u v) → ⊥) → (T (hasArc arcs u v) → sumBy P (hit P f (arc u v)) (map arcAsk arcs) ≡ f (arc u v)) →
+          sumBy P (hit P f (arc u v)) (map arcAsk (a ∷ arcs)) ≡ f (arc u v)
       at (inl s) more =
           let e = joins-ends a u v s in
           hit-first (arc u v) (arcAsk a) (map arcAsk arcs) s
@@ -171,10 +176,12 @@ module _ (P : Prices) (L : Ordered P) (f : Item → P .El) where
   hit-once : {E : Type 0} (G : Graph E) → WellFormed G → (j : Item) → Known G j → sumBy P (hit P f j) (asks G) ≡ f j
   hit-once G g (vert v) k =
       sum-append P L (hit P f (vert v)) (vertexAsks 0 (G .vertices)) (map arcAsk (G .arcs)) ∙
-      (ap₂ (P .add) (vertex-hit v 0 (G .vertices) (omega arith) (omega arith)) (none-hit (vert v) (map arcAsk (G .arcs)) (arcs-no-vertex v (G .arcs))) ∙ L .add-nil (f (vert v)))
+      (ap₂ (P .add) (vertex-hit v 0 (G .vertices) (omega arith) (omega arith))
+      (none-hit (vert v) (map arcAsk (G .arcs)) (arcs-no-vertex v (G .arcs))) ∙ L .add-nil (f (vert v)))
   hit-once G g (arc u v) k =
       sum-append P L (hit P f (arc u v)) (vertexAsks 0 (G .vertices)) (map arcAsk (G .arcs)) ∙
-      (ap₂ (P .add) (none-hit (arc u v) (vertexAsks 0 (G .vertices)) (vertices-no-arc u v 0 (G .vertices))) (arc-hit (G .arcs) u v (g .once) k) ∙ nil-add P L (f (arc u v)))
+      (ap₂ (P .add) (none-hit (arc u v) (vertexAsks 0 (G .vertices)) (vertices-no-arc u v 0 (G .vertices))) (arc-hit (G .arcs) u v (g .once) k) ∙
+      nil-add P L (f (arc u v)))
 
   -- a sum over items of the graph, counted ask by ask
   pub sum-by-count : {E : Type 0} (G : Graph E) → WellFormed G → (js : List Item) → All (Known G) js →

@@ -1,22 +1,21 @@
 -- One join of document 01, "Replace both by the joined read", as lists: x ++ o and o ++ y are taken out and x ++ (o ++ y) is put in. Still no
 -- read stands in another (L7), each old read stands in a new one, and joining ends with no overlap left.
-use Prim.Native.Nat.{ℕ, zero, suc, _+_, _≤_, _<_, min, max}
+use Prim.Native.Nat.{ℕ, zero, suc, _≤_, _<_, min, max}
 use native.Mathlib.Omega.{arith}
 use native.Mathlib.Decide.{decLt}
-use mathlib.Core.Path.{_≡_, refl, sym, ap, ap₂, subst, subst₃, _∙_}
+use mathlib.Core.Path.{_≡_, refl, sym, ap, subst, subst₃, _∙_}
 use mathlib.Core.List.{List, [], _∷_, _++_, append-nil, append-assoc}
 use mathlib.Core.Bool.{Bool, true, false, cond}
-use mathlib.Core.Logic.{_⊎_, inl, inr}
+use mathlib.Core.Logic.{inl, inr}
 use lib.Dec.{T, eqb, eqb→eq, eqb-refl}
 use lib.ListN.{length, getD, set, drop}
 use Rattle.mathematics.specs.Lists.{All}
-use Rattle.mathematics.specs.Range.{OneOf}
-use Rattle.mathematics.specs.Prepare.{overlap, Meeting, longest, without, joinAt, joinWhile}
+use Rattle.mathematics.specs.Prepare.{Meeting, longest, without, joinAt, joinWhile}
 use Rattle.mathematics.proofs.Basics.{all-from, all-among}
 use Rattle.mathematics.proofs.WithReads.{Pairwise}
 use Rattle.mathematics.proofs.Parts.{Within, Held, within-self, within-trans, held-trans, Parts, parts}
-use Rattle.mathematics.proofs.Overlap.{Clear, clear-swap, Meet, overlap-meets, drop-length, none-across-left}
-use Rattle.mathematics.proofs.Taken.{Taken, here, there, taken-all, put-all, taken-length, taken-swap, taken-pairwise, put-pairwise, taken-among, taken-cases}
+use Rattle.mathematics.proofs.Overlap.{Clear, clear-swap, overlap-meets, drop-length, none-across-left}
+use Rattle.mathematics.proofs.Taken.{Taken, here, there, taken-all, put-all, taken-length, taken-swap, taken-pairwise, put-pairwise}
 use Rattle.mathematics.proofs.Longest.{AtMost, longest-most, Meets, longest-meets}
 
 module _ {A : Type 0} where
@@ -55,7 +54,8 @@ replaced-swap a b z rs rs′ r =
     let (mid, f, s) = taken-swap (r .first) (r .second) in
     record { mid = mid; others = r .others; first = f; second = s; made = r .made }
 
-replaced-at : (lo hi : ℕ) (rs : List (List ℕ)) (z : List ℕ) → lo < hi → hi < length rs → Replaced (getD rs hi []) (getD rs lo []) z rs (without hi (set rs lo z))
+replaced-at : (lo hi : ℕ) (rs : List (List ℕ)) (z : List ℕ) → lo < hi → hi < length rs →
+    Replaced (getD rs hi []) (getD rs lo []) z rs (without hi (set rs lo z))
 replaced-at lo hi rs z l h =
     let at-hi = taken-without hi rs [] h in
     let lo-below : lo < length (without hi rs) = omega (arith, taken-length at-hi) in
@@ -63,17 +63,21 @@ replaced-at lo hi rs z l h =
       mid = without hi rs;
       others = without lo (without hi rs);
       first = at-hi;
-      second = subst (λ (r : List ℕ). Taken r (without hi rs) (without lo (without hi rs))) (getD-without lo hi rs [] l) (taken-without lo (without hi rs) [] lo-below);
-      made = subst (λ (q : List (List ℕ)). Taken z q (without lo (without hi rs))) (sym (without-set lo hi rs z l)) (taken-set lo (without hi rs) z lo-below);
+      second = rw (getD-without lo hi rs [] l) at (taken-without lo (without hi rs) [] lo-below);
+      made = rw (without-set lo hi rs z l) (taken-set lo (without hi rs) z lo-below);
     }
 
-replaced-order : (i j lo hi : ℕ) (rs : List (List ℕ)) (z : List ℕ) → max i j ≡ hi → min i j ≡ lo → Replaced (getD rs i []) (getD rs j []) z rs (without hi (set rs lo z)) → Replaced (getD rs i []) (getD rs j []) z rs (without (max i j) (set rs (min i j) z))
+replaced-order : (i j lo hi : ℕ) (rs : List (List ℕ)) (z : List ℕ) → max i j ≡ hi → min i j ≡ lo →
+    Replaced (getD rs i []) (getD rs j []) z rs (without hi (set rs lo z)) →
+    Replaced (getD rs i []) (getD rs j []) z rs (without (max i j) (set rs (min i j) z))
 replaced-order i j lo hi rs z e f r = rw (e, f) r
 
-replaced-places : (i j : ℕ) (rs : List (List ℕ)) (z : List ℕ) → i < length rs → j < length rs → (i ≡ j → ⊥) → Replaced (getD rs i []) (getD rs j []) z rs (without (max i j) (set rs (min i j) z))
+replaced-places : (i j : ℕ) (rs : List (List ℕ)) (z : List ℕ) → i < length rs → j < length rs → (i ≡ j → ⊥) →
+    Replaced (getD rs i []) (getD rs j []) z rs (without (max i j) (set rs (min i j) z))
 replaced-places i j rs z k l n =
     elim (decLt i j) [
-      | yes h ↦ replaced-order i j i j rs z (omega arith) (omega arith) (replaced-swap (getD rs j []) (getD rs i []) z rs (without j (set rs i z)) (replaced-at i j rs z h l))
+      | yes h ↦ replaced-order i j i j rs z (omega arith) (omega arith)
+          (replaced-swap (getD rs j []) (getD rs i []) z rs (without j (set rs i z)) (replaced-at i j rs z h l))
       | no h ↦ replaced-order i j j i rs z (omega arith) (omega arith) (replaced-at j i rs z (omega arith) k)
     ]
 
@@ -102,7 +106,8 @@ join-at m rs h p most =
       y = met .y;
       some-o = omega arith;
       most = subst (λ (n : ℕ). Pairwise (AtMost n) rs) size most;
-      replaced = subst₃ (λ (a b z : List ℕ). Replaced a b z rs (joinAt m rs)) (met .ends) (met .begin) (joined-read a b (met .x) (met .o) (met .y) (m .length) (met .ends) (met .begin) size)
+      replaced = subst₃ (λ (a b z : List ℕ). Replaced a b z rs (joinAt m rs)) (met .ends) (met .begin)
+          (joined-read a b (met .x) (met .o) (met .y) (m .length) (met .ends) (met .begin) size)
           (replaced-places (m .i) (m .j) rs (a ++ drop (m .length) b) (h .i-below) (h .j-below) (h .differ));
     }
 
@@ -137,7 +142,8 @@ module _ (rs rs′ : List (List ℕ)) (j : Join rs rs′) where
       put-all P (j .replaced .made) (f p q) others
 
   -- what any two of the old ones have: the joined two, and both of them with each other one
-  pub join-old : (R : List ℕ → List ℕ → Type 0) → ((a b : List ℕ) → R a b → R b a) → Pairwise R rs → R left right × All (R left) (j .replaced .others) × All (R right) (j .replaced .others) × Pairwise R (j .replaced .others)
+  pub join-old : (R : List ℕ → List ℕ → Type 0) → ((a b : List ℕ) → R a b → R b a) → Pairwise R rs →
+      R left right × All (R left) (j .replaced .others) × All (R right) (j .replaced .others) × Pairwise R (j .replaced .others)
   join-old R swap h =
       let (a, more) = taken-pairwise R swap (j .replaced .first) h in
       let (b, others) = taken-pairwise R swap (j .replaced .second) more in
@@ -186,7 +192,8 @@ none-longest : (rs : List (List ℕ)) → (T (eqb (longest rs .length) 0) → �
 none-longest rs n e = n (subst (λ (k : ℕ). T (eqb k 0)) (sym e) (eqb-refl 0))
 
 -- what holds of the reads and stays with each join holds at the end
-pub while-keeps : (Q : List (List ℕ) → Type 0) → ((rs rs′ : List (List ℕ)) → Join rs rs′ → Q rs → Q rs′) → (turns : ℕ) (rs : List (List ℕ)) → Q rs → Q (joinWhile turns rs)
+pub while-keeps : (Q : List (List ℕ) → Type 0) → ((rs rs′ : List (List ℕ)) → Join rs rs′ → Q rs → Q rs′) → (turns : ℕ) (rs : List (List ℕ)) →
+    Q rs → Q (joinWhile turns rs)
 while-keeps Q step zero rs h = h
 while-keeps Q step (suc turns) rs h =
     pick-while Q (eqb (longest rs .length) 0) rs (joinWhile turns (joinAt (longest rs) rs))

@@ -20,22 +20,25 @@ use Rattle.mathematics.proofs.Algebra
 use Rattle.mathematics.proofs.PriceKinds.{whole-ordered}
 
 -- each cost of the steps is one of the list, so what holds of those holds of the steps
-steps-all : {E : Type 0} (Q : E → Type 0) (costs : List E) (steps : List (Step E)) → All Q costs → All (λ s. OneOf costs (s .cost)) steps → All (λ s. Q (s .cost)) steps
+steps-all : {E : Type 0} (Q : E → Type 0) (costs : List E) (steps : List (Step E)) → All Q costs → All (λ s. OneOf costs (s .cost)) steps →
+    All (λ s. Q (s .cost)) steps
 steps-all Q costs steps h k = all-weaken _ _ steps (λ s m. all-among Q costs (s .cost) h m) k
 
 module _ (P : Prices) (L : Ordered P) (c : P .El) where
+  neg-below : (a : P .El) → Le P (P .nil) a → Le P (P .neg a) (P .nil)
+  neg-below a h = subst (Le P (P .neg a)) (Algebra.neg-nil P L) (Algebra.le-neg P L (P .nil) a h)
+
   -- one cost s of at most c added to or taken from x
   one-step : (b : Bool) (x s : P .El) → Le P (P .nil) s → Le P s c →
       Le P (sub P x c) (cond b (P .add x s) (sub P x s)) × Le P (cond b (P .add x s) (sub P x s)) (P .add x c)
   one-step true x s h k =
-      (Algebra.le-add-left P L (P .neg c) s x (L .le-trans (P .neg c) (P .nil) s (below (L .le-trans (P .nil) s c h k)) h), Algebra.le-add-left P L s c x k)
-    where
-      below : Le P (P .nil) c → Le P (P .neg c) (P .nil)
-      below n = subst (Le P (P .neg c)) (Algebra.neg-nil P L) (Algebra.le-neg P L (P .nil) c n)
-  one-step false x s h k = (
-    Algebra.le-add-left P L (P .neg c) (P .neg s) x (Algebra.le-neg P L s c k),
-    Algebra.le-add-left P L (P .neg s) c x (L .le-trans (P .neg s) (P .nil) c (subst (Le P (P .neg s)) (Algebra.neg-nil P L) (Algebra.le-neg P L (P .nil) s h)) (L .le-trans (P .nil) s c h k)),
-  )
+      let n = neg-below c (L .le-trans (P .nil) s c h k) in
+      (Algebra.le-add-left P L (P .neg c) s x (L .le-trans (P .neg c) (P .nil) s n h), Algebra.le-add-left P L s c x k)
+  one-step false x s h k =
+      let n = L .le-trans (P .nil) s c h k in (
+        Algebra.le-add-left P L (P .neg c) (P .neg s) x (Algebra.le-neg P L s c k),
+        Algebra.le-add-left P L (P .neg s) c x (L .le-trans (P .neg s) (P .nil) c (neg-below s h) n),
+      )
 
   -- y is x with at most k times c added or taken away
   abbrev Within : ℕ → P .El → P .El → Type 0
@@ -52,7 +55,8 @@ module _ (P : Prices) (L : Ordered P) (c : P .El) where
       lower : sub P (sub P x c) (times P k c) ≡ sub P x (times P (suc k) c)
       lower = L .add-assoc x (P .neg c) (P .neg (times P k c)) ∙ ap (P .add x) (sym (Algebra.neg-add P L c (times P k c)))
 
-  climb-within : (x : P .El) (steps : List (Step (P .El))) → All (λ s. Le P (P .nil) (s .cost) × Le P (s .cost) c) steps → Within (length steps) x (climb P x steps)
+  climb-within : (x : P .El) (steps : List (Step (P .El))) → All (λ s. Le P (P .nil) (s .cost) × Le P (s .cost) c) steps →
+      Within (length steps) x (climb P x steps)
   climb-within x [] h =
       (Algebra.le-of-eq P L (sub P x (P .nil)) x (Algebra.sub-nil P L x), Algebra.le-of-eq P L x (P .add x (P .nil)) (sym (L .add-nil x)))
   climb-within x (s ∷ steps) h =
@@ -109,7 +113,8 @@ whole-mark-limits G o C k x opens costs m =
     let reached : x ≡ climb whole (pos s) (m .steps) = m .reaches ∙ ap (λ y. climb whole y (m .steps)) (ap (λ y. cond (m .opened) y (pos 0)) opens ∙ e) in
     let w =
     whole-within C k s (m .steps) (m .few)
-    (steps-all (λ d. (c : ℕ) × (c ≤ C) × (d ≡ pos c)) (map (λ (a : Arc ℤ). a .cost) (G .arcs)) (m .steps) (all-map _ (λ (a : Arc ℤ). a .cost) (G .arcs) costs) (m .of-arcs)) in
+    (steps-all (λ d. (c : ℕ) × (c ≤ C) × (d ≡ pos c)) (map (λ (a : Arc ℤ). a .cost) (G .arcs)) (m .steps)
+    (all-map _ (λ (a : Arc ℤ). a .cost) (G .arcs) costs) (m .of-arcs)) in
     subst (λ y. T (leZ (negℤ (pos (k * C))) y) × T (leZ y (pos (o + k * C)))) (sym reached)
     (w .0, whole-ordered .le-trans (climb whole (pos s) (m .steps)) (pos (s + k * C)) (pos (o + k * C)) (w .1) (pos-le (s + k * C) (o + k * C) (omega arith)))
 
@@ -146,7 +151,8 @@ part-within : (q : Part) (C k s : ℕ) (x : Pair) (steps : List (Step Pair)) →
 part-within q C k s x steps e few h =
     subst (λ y. T (leZ (negℤ (pos (k * C))) y) × T (leZ y (pos (s + k * C))))
     (sym (climb-part q x steps ∙ ap (λ y. climb whole y (partSteps q steps)) e))
-    (whole-within C k s (partSteps q steps) (subst (λ n. n ≤ k) (sym (length-map steps _)) few) (all-map _ (λ (d : Step Pair). record { up = d .up; cost = q .part (d .cost) }) steps h))
+    (whole-within C k s (partSteps q steps) (subst (λ n. n ≤ k) (sym (length-map steps _)) few)
+    (all-map _ (λ (d : Step Pair). record { up = d .up; cost = q .part (d .cost) }) steps h))
 
 opened-first : (b : Bool) → (s : ℕ) × (s ≤ 1) × (cond b (record { first = pos 1; second = pos 0 }) (pairs .nil) .first ≡ pos s)
 opened-first true = (1, omega arith, refl)
@@ -249,11 +255,14 @@ whole-marks-fit G o x n l opens costs m =
 -- both parts of a pair's mark
 pub pair-marks-fit : (G : Graph Pair) (x : Pair) → length (G .vertices) ≤ 256 → G .opening ≡ record { first = pos 1; second = pos 0 } →
     All (λ a. (c : ℕ) × (c ≤ 1000000) × (a .cost ≡ record { first = pos 0; second = pos c })) (G .arcs) → MarkWithin pairs G (2 * length (G .vertices)) x →
-    (T (leZ (negℤ (pos 2000000000)) (x .first)) × T (leZ (x .first) (pos 2000000000))) × (T (leZ (negℤ (pos 2000000000)) (x .second)) × T (leZ (x .second) (pos 2000000000)))
+    (T (leZ (negℤ (pos 2000000000)) (x .first)) × T (leZ (x .first) (pos 2000000000))) ×
+    (T (leZ (negℤ (pos 2000000000)) (x .second)) × T (leZ (x .second) (pos 2000000000)))
 pair-marks-fit G x n opens costs m =
     let k = 2 * length (G .vertices) in
-    let w = pair-mark-limits G 1000000 k x opens costs m in
-    (fits 0 1 (x .first) (omega arith) (omega arith) (w .0 .0) (w .0 .1), fits (k * 1000000) (k * 1000000) (x .second) (omega arith) (omega arith) (w .1 .0) (w .1 .1))
+    let w = pair-mark-limits G 1000000 k x opens costs m in (
+      fits 0 1 (x .first) (omega arith) (omega arith) (w .0 .0) (w .0 .1),
+      fits (k * 1000000) (k * 1000000) (x .second) (omega arith) (omega arith) (w .1 .0) (w .1 .1),
+    )
 
 -- document 01's two numbers
 pub path-limit-464 : {E : Type 0} (G : Graph E) → length (G .vertices) ≤ 64 → length (G .arcs) ≤ 256 → length (G .reads) ≤ 16 → pathLimit G ≤ 464

@@ -1,20 +1,20 @@
 -- Linked lists and paths cut at a vertex: two that pass the same vertex may exchange their ends, and together they pass what they passed before.
-use Prim.Native.Nat.{ℕ, zero, suc, _+_, _≤_, _<_}
+use Prim.Native.Nat.{ℕ, _+_, _≤_, _<_}
 use native.Mathlib.Omega.{arith}
-use mathlib.Core.Path.{_≡_, refl, sym, ap, subst, _∙_}
+use mathlib.Core.Path.{_≡_, sym, subst}
 use mathlib.Core.List.{List, [], _∷_, _++_}
-use mathlib.Core.Bool.{Bool, true, false, _&&_}
+use mathlib.Core.Bool.{true}
 use lib.Dec.{T}
 use lib.ListN.{length}
 use Rattle.mathematics.specs.Lists.{All, lastOf}
 use Rattle.mathematics.specs.Graph.{Arc, Graph, Rises, WellFormed, isStart, isEnd, hasArc, linked, isPath}
-use Rattle.mathematics.specs.Cover.{Item, vert, arc, oneIf, sameItem, through}
-use Rattle.mathematics.proofs.Basics.{and-l, and-r, and-in, all-weaken}
+use Rattle.mathematics.specs.Cover.{Item, through}
+use Rattle.mathematics.proofs.Basics.{and-in, all-weaken}
 use Rattle.mathematics.proofs.Reach.{last-append, linked-first, linked-rest, arc-rises, path-start, path-linked, path-end, path-from-parts}
 use Rattle.mathematics.proofs.Parts.{Rising, Within}
 
 -- the first of the list, or v where it is empty
-abbrev pub firstOf : ℕ → List ℕ → ℕ
+abbrev firstOf : ℕ → List ℕ → ℕ
 firstOf v [] = v
 firstOf v (u ∷ l) = u
 
@@ -31,7 +31,8 @@ module _ {E : Type 0} where
   linked-from arcs (u ∷ []) v r h = linked-rest arcs u v r h
   linked-from arcs (u ∷ w ∷ l) v r h = linked-from arcs (w ∷ l) v r (linked-rest arcs u w (l ++ (v ∷ r)) h)
 
-  pub linked-join : (arcs : List (Arc E)) (l : List ℕ) (v : ℕ) (r : List ℕ) → T (linked arcs (l ++ (v ∷ []))) → T (linked arcs (v ∷ r)) → T (linked arcs (l ++ (v ∷ r)))
+  pub linked-join : (arcs : List (Arc E)) (l : List ℕ) (v : ℕ) (r : List ℕ) → T (linked arcs (l ++ (v ∷ []))) → T (linked arcs (v ∷ r)) →
+      T (linked arcs (l ++ (v ∷ r)))
   linked-join arcs [] v r h k = k
   linked-join arcs (u ∷ []) v r h k = and-in (hasArc arcs u v) (linked arcs (v ∷ r)) (linked-first arcs u v [] h) k
   linked-join arcs (u ∷ w ∷ l) v r h k =
@@ -39,7 +40,7 @@ module _ {E : Type 0} where
       (linked-join arcs (w ∷ l) v r (linked-rest arcs u w (l ++ (v ∷ [])) h) k)
 
   -- numbers rise along arcs
-  pub linked-rising : (n : ℕ) (arcs : List (Arc E)) → All (Rises n) arcs → (p : List ℕ) → T (linked arcs p) → Rising p
+  linked-rising : (n : ℕ) (arcs : List (Arc E)) → All (Rises n) arcs → (p : List ℕ) → T (linked arcs p) → Rising p
   linked-rising n arcs up [] h = tt
   linked-rising n arcs up (v ∷ []) h = (tt, tt)
   linked-rising n arcs up (u ∷ v ∷ p) h =
@@ -48,9 +49,12 @@ module _ {E : Type 0} where
       ((here, all-weaken (λ w. v < w) (λ w. u < w) p (λ w k. omega arith) (more .0)), more)
 
 module _ {E : Type 0} (G : Graph E) where
-  pub path-is-linked : (p : List ℕ) → T (isPath G p) → T (linked (G .arcs) p)
+  path-is-linked : (p : List ℕ) → T (isPath G p) → T (linked (G .arcs) p)
   path-is-linked [] h = tt
   path-is-linked (s ∷ p) h = path-linked G s p h
+
+  pub path-rising : WellFormed G → (p : List ℕ) → T (isPath G p) → Rising p
+  path-rising wf p h = linked-rising (length (G .vertices)) (G .arcs) (wf .rises) p (path-is-linked p h)
 
   path-first : (l : List ℕ) (v : ℕ) (r : List ℕ) → T (isPath G (l ++ (v ∷ r))) → T (isStart G (firstOf v l))
   path-first [] v r h = path-start G v r h
@@ -60,7 +64,8 @@ module _ {E : Type 0} (G : Graph E) where
   path-last [] v r h = path-end G v r h
   path-last (u ∷ l) v r h = subst (λ (w : ℕ). T (isEnd G w)) (last-append u l (v ∷ r)) (path-end G u (l ++ (v ∷ r)) h)
 
-  path-of : (l : List ℕ) (v : ℕ) (r : List ℕ) → T (isStart G (firstOf v l)) → T (linked (G .arcs) (l ++ (v ∷ r))) → T (isEnd G (lastOf v r)) → T (isPath G (l ++ (v ∷ r)))
+  path-of : (l : List ℕ) (v : ℕ) (r : List ℕ) → T (isStart G (firstOf v l)) → T (linked (G .arcs) (l ++ (v ∷ r))) → T (isEnd G (lastOf v r)) →
+      T (isPath G (l ++ (v ∷ r)))
   path-of [] v r a b c = path-from-parts G v r a b c
   path-of (u ∷ l) v r a b c = path-from-parts G u (l ++ (v ∷ r)) a b (subst (λ (w : ℕ). T (isEnd G w)) (sym (last-append u l (v ∷ r))) c)
 
@@ -71,17 +76,20 @@ module _ {E : Type 0} (G : Graph E) where
       (path-last m v s k)
 
   -- one path up to o and another from o on are a path
-  pub path-exchange : (l o r m s : List ℕ) → 1 ≤ length o → T (isPath G (l ++ (o ++ r))) → T (isPath G (m ++ (o ++ s))) → T (isPath G (l ++ (o ++ s)))
+  pub path-exchange : (l o r m s : List ℕ) → 1 ≤ length o → T (isPath G (l ++ (o ++ r))) → T (isPath G (m ++ (o ++ s))) →
+      T (isPath G (l ++ (o ++ s)))
   path-exchange l [] r m s p h k = absurd (omega arith)
   path-exchange l (v ∷ o) r m s p h k = path-crosses l v (o ++ r) m (o ++ s) h k
 
-through-cut : (i : Item) (l : List ℕ) (v : ℕ) (r : List ℕ) → through i (l ++ (v ∷ r)) + through i (v ∷ []) ≡ through i (l ++ (v ∷ [])) + through i (v ∷ r)
+through-cut : (i : Item) (l : List ℕ) (v : ℕ) (r : List ℕ) →
+    through i (l ++ (v ∷ r)) + through i (v ∷ []) ≡ through i (l ++ (v ∷ [])) + through i (v ∷ r)
 through-cut i [] v r = omega arith
 through-cut i (u ∷ []) v r = omega arith
 through-cut i (u ∷ w ∷ l) v r = omega (arith, through-cut i (w ∷ l) v r)
 
 -- two lists that exchange what stands behind o pass together what they passed before
-pub through-exchange : (i : Item) (l o r m s : List ℕ) → 1 ≤ length o → through i (l ++ (o ++ r)) + through i (m ++ (o ++ s)) ≡ through i (l ++ (o ++ s)) + through i (m ++ (o ++ r))
+pub through-exchange : (i : Item) (l o r m s : List ℕ) → 1 ≤ length o →
+    through i (l ++ (o ++ r)) + through i (m ++ (o ++ s)) ≡ through i (l ++ (o ++ s)) + through i (m ++ (o ++ r))
 through-exchange i l [] r m s p = absurd (omega arith)
 through-exchange i l (v ∷ o) r m s p =
     omega (arith, through-cut i l v (o ++ r), through-cut i m v (o ++ s), through-cut i l v (o ++ s), through-cut i m v (o ++ r))

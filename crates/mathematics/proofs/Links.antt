@@ -1,16 +1,15 @@
 -- The network of a graph as links between nodes, and what a walk from the root to the finish is: a path from a start to an end. Each vertex v has two
 -- nodes, 2v + 1 (its in side) and 2v + 2 (its out side); the root is 0 and the finish 2n + 1. Sweep.antt makes such walks, Decompose.antt uses them.
-use Prim.Native.Nat.{ℕ, zero, suc, _+_, _*_, _≤_, _<_}
+use Prim.Native.Nat.{ℕ, _+_, _*_, _≤_, _<_}
 use native.Mathlib.Omega.{arith}
-use mathlib.Core.Path.{_≡_, refl, sym, ap, ap₂, subst, _∙_}
-use mathlib.Core.List.{List, [], _∷_, _++_, append-assoc, append-nil}
-use mathlib.Core.Bool.{Bool, true, false}
-use mathlib.Core.Logic.{_⊎_, inl, inr}
+use mathlib.Core.Path.{_≡_, refl, sym, ap, subst, _∙_}
+use mathlib.Core.List.{List, [], _∷_, _++_, append-assoc}
+use mathlib.Core.Logic.{inl, inr}
 use lib.Dec.{T}
-use lib.ListN.{length}
+use lib.ListN.{length, getD}
 use Rattle.mathematics.specs.Lists.{All, lastOf}
-use Rattle.mathematics.specs.Graph.{Arc, Graph, isStart, isEnd, isPath, hasArc, linked, Rises}
-use Rattle.mathematics.specs.Cover.{Item, vert, arc, sameItem, trail, oneIf, countOf, through}
+use Rattle.mathematics.specs.Graph.{Graph, isStart, isEnd, isPath, hasArc, linked, Rises}
+use Rattle.mathematics.specs.Cover.{Item, vert, arc, trail, countOf, through}
 use Rattle.mathematics.specs.Range.{OneOf}
 use Rattle.mathematics.proofs.Basics.{and-in}
 use Rattle.mathematics.proofs.Parts.{Within}
@@ -33,20 +32,12 @@ inNode v = 2 * v + 1
 abbrev pub outNode : ℕ → ℕ
 outNode v = 2 * v + 2
 
-abbrev pub firstOf : List ℕ → ℕ
-firstOf [] = 0
-firstOf (v ∷ r) = v
-
-abbrev pub finalOf : List ℕ → ℕ
-finalOf [] = 0
-finalOf (v ∷ r) = lastOf v r
-
 abbrev pub linkFrom : Link → ℕ
 linkFrom (opening v) = 0
 linkFrom (closing v) = outNode v
 linkFrom (inside v) = inNode v
 linkFrom (across u v) = outNode u
-linkFrom (reading r) = inNode (firstOf r)
+linkFrom (reading r) = inNode (getD r 0 0)
 
 -- with z for the node that closing links lead to
 abbrev pub linkTo : ℕ → Link → ℕ
@@ -54,7 +45,7 @@ linkTo z (opening v) = inNode v
 linkTo z (closing v) = z
 linkTo z (inside v) = outNode v
 linkTo z (across u v) = inNode v
-linkTo z (reading r) = outNode (finalOf r)
+linkTo z (reading r) = outNode (lastOf 0 r)
 
 -- the vertices, the items on a link
 abbrev pub linkVertices : Link → List ℕ

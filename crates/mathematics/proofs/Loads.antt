@@ -1,14 +1,19 @@
 -- Things with amounts, and what a list of them is worth: the sum of amount times the value of the thing. A flow, the loads on the edges of a
 -- network, and a list of weighted paths are all such lists; Sweep.antt turns one into another of the same worth.
-use Prim.Native.Nat.{ℕ, zero, suc, _+_, _*_, _≤_, _<_}
-use mathlib.Core.Path.{_≡_, refl, sym, ap, ap₂, _∙_}
-use mathlib.Core.List.{List, [], _∷_, _++_, map}
-use mathlib.Core.Bool.{Bool, true, false, not, cond}
+use Prim.Native.Nat.{ℕ, suc, _+_, _*_}
+use mathlib.Core.Path.{_≡_, refl, ap, ap₂, subst, _∙_}
+use mathlib.Core.List.{List, [], _∷_, _++_}
+use mathlib.Core.Bool.{Bool, true, false, cond}
+use mathlib.Core.Logic.{_≢_}
 use native.Mathlib.Nat.{zero-mul}
 use native.Mathlib.Omega.{arith}
-use lib.Dec.{T, ltb, nltb→le}
+use lib.Dec.{T, eqb, eqb-refl, ltb, nltb→le}
 use lib.ListN.{length}
 use Rattle.mathematics.specs.Lists.{All}
+
+-- numbers that a test tells apart differ
+pub unequal : (m n : ℕ) → (T (eqb m n) → ⊥) → m ≢ n
+unequal m n h e = h (subst (λ (k : ℕ). T (eqb m k)) e (eqb-refl m))
 
 -- an amount of a thing
 pub record Load (A : Type 0) : Type 0 where
@@ -50,7 +55,8 @@ module _ {A : Type 0} where
   worth-append g (x ∷ xs) ys = omega (arith, worth-append g xs ys)
 
   -- values that agree on the list give the same worth
-  pub worth-same : (P : Load A → Type 0) (g h : A → ℕ) (xs : List (Load A)) → All P xs → ((x : Load A) → P x → g (x .what) ≡ h (x .what)) → worth g xs ≡ worth h xs
+  pub worth-same : (P : Load A → Type 0) (g h : A → ℕ) (xs : List (Load A)) → All P xs → ((x : Load A) → P x → g (x .what) ≡ h (x .what)) →
+      worth g xs ≡ worth h xs
   worth-same P g h [] p e = refl
   worth-same P g h (x ∷ xs) p e = ap₂ (λ (a b : ℕ). x .amount * a + b) (e x (p .0)) (worth-same P g h xs (p .1) e)
 
@@ -140,7 +146,8 @@ module _ {A : Type 0} where
   worth-present g [] = refl
   worth-present g (x ∷ xs) = go (ltb 0 (x .amount)) refl (worth-present g xs)
     where
-      go : (b : Bool) → ltb 0 (x .amount) ≡ b → worth g (passing isPresent xs) ≡ worth g xs → worth g (cond b (x ∷ passing isPresent xs) (passing isPresent xs)) ≡ worth g (x ∷ xs)
+      go : (b : Bool) → ltb 0 (x .amount) ≡ b → worth g (passing isPresent xs) ≡ worth g xs →
+          worth g (cond b (x ∷ passing isPresent xs) (passing isPresent xs)) ≡ worth g (x ∷ xs)
       go true e h = omega arith
       go false e h =
           let z : x .amount ≡ 0 = omega (arith, nltb→le 0 (x .amount) (rw e tt)) in

@@ -19,7 +19,8 @@ meeting i a j b = record { length = overlap a b; i = i; j = j }
 abbrev next : ℕ → List ℕ → ℕ → List ℕ → Meeting → Meeting
 next i a j b best = cond (eqb i j) best (longer best (meeting i a j b))
 
-pick-longer : (t : Bool) (p q : Meeting) → (T t → p .length ≤ q .length) → ((T t → ⊥) → q .length ≤ p .length) → (p .length ≤ cond t q p .length) × (q .length ≤ cond t q p .length)
+pick-longer : (t : Bool) (p q : Meeting) → (T t → p .length ≤ q .length) → ((T t → ⊥) → q .length ≤ p .length) →
+    (p .length ≤ cond t q p .length) × (q .length ≤ cond t q p .length)
 pick-longer true p q f g = (f tt, omega arith)
 pick-longer false p q f g = (omega arith, g (λ n. n))
 
@@ -49,7 +50,8 @@ with-keeps i a j [] best = omega arith
 with-keeps i a j (b ∷ bs) best =
     omega (arith, next-keeps i a j b best, with-keeps i a (suc j) bs (next i a j b best))
 
-with-bounds : (i : ℕ) (a : List ℕ) (j : ℕ) (bs : List (List ℕ)) (best : Meeting) (t : ℕ) → t < length bs → (i ≡ j + t → ⊥) → overlap a (getD bs t []) ≤ longestWith i a j bs best .length
+with-bounds : (i : ℕ) (a : List ℕ) (j : ℕ) (bs : List (List ℕ)) (best : Meeting) (t : ℕ) → t < length bs → (i ≡ j + t → ⊥) →
+    overlap a (getD bs t []) ≤ longestWith i a j bs best .length
 with-bounds i a j [] best t l n = absurd (omega arith)
 with-bounds i a j (b ∷ bs) best zero l n =
     omega (arith, next-counts i a j b best (omega arith), with-keeps i a (suc j) bs (next i a j b best))
@@ -60,7 +62,8 @@ from-keeps i rs [] best = omega arith
 from-keeps i rs (a ∷ more) best =
     omega (arith, with-keeps i a 0 rs best, from-keeps (suc i) rs more (longestWith i a 0 rs best))
 
-from-bounds : (i : ℕ) (rs more : List (List ℕ)) (best : Meeting) (s j : ℕ) → s < length more → j < length rs → (i + s ≡ j → ⊥) → overlap (getD more s []) (getD rs j []) ≤ longestFrom i rs more best .length
+from-bounds : (i : ℕ) (rs more : List (List ℕ)) (best : Meeting) (s j : ℕ) → s < length more → j < length rs → (i + s ≡ j → ⊥) →
+    overlap (getD more s []) (getD rs j []) ≤ longestFrom i rs more best .length
 from-bounds i rs [] best s j l k n = absurd (omega arith)
 from-bounds i rs (a ∷ more) best zero j l k n =
     omega (arith, with-bounds i a 0 rs best j k (omega arith), from-keeps (suc i) rs more (longestWith i a 0 rs best))
@@ -68,7 +71,8 @@ from-bounds i rs (a ∷ more) best (suc s) j l k n =
     from-bounds (suc i) rs more (longestWith i a 0 rs best) s j (omega arith) k (omega arith)
 
 -- no two reads overlap by more than the longest
-longest-bounds : (rs : List (List ℕ)) (i j : ℕ) → i < length rs → j < length rs → (i ≡ j → ⊥) → overlap (getD rs i []) (getD rs j []) ≤ longest rs .length
+longest-bounds : (rs : List (List ℕ)) (i j : ℕ) → i < length rs → j < length rs → (i ≡ j → ⊥) →
+    overlap (getD rs i []) (getD rs j []) ≤ longest rs .length
 unfolding longest
 longest-bounds rs i j k l n = from-bounds 0 rs rs (record { length = 0; i = 0; j = 0 }) i j k l (omega arith)
 
@@ -80,7 +84,8 @@ all-places : (P : List ℕ → Type 0) (rs : List (List ℕ)) → ((j : ℕ) →
 all-places P [] f = tt
 all-places P (r ∷ rs) f = (f 0 (omega arith), all-places P rs (λ j l. f (suc j) (omega arith)))
 
-pairwise-places : (R : List ℕ → List ℕ → Type 0) (rs : List (List ℕ)) → ((i j : ℕ) → i < j → j < length rs → R (getD rs i []) (getD rs j [])) → Pairwise R rs
+pairwise-places : (R : List ℕ → List ℕ → Type 0) (rs : List (List ℕ)) → ((i j : ℕ) → i < j → j < length rs → R (getD rs i []) (getD rs j [])) →
+    Pairwise R rs
 pairwise-places R [] f = tt
 pairwise-places R (r ∷ rs) f =
     (all-places (R r) rs (λ j l. f 0 (suc j) (omega arith) (omega arith)), pairwise-places R rs (λ i j k l. f (suc i) (suc j) (omega arith) (omega arith)))
@@ -114,20 +119,23 @@ pick-good : (t : Bool) (rs : List (List ℕ)) (p q : Meeting) → Good rs p → 
 pick-good true rs p q f g = f
 pick-good false rs p q f g = g (λ n. n)
 
-next-good : (rs : List (List ℕ)) (i j : ℕ) (a b : List ℕ) (best : Meeting) → a ≡ getD rs i [] → b ≡ getD rs j [] → i < length rs → j < length rs → Good rs best → Good rs (next i a j b best)
+next-good : (rs : List (List ℕ)) (i j : ℕ) (a b : List ℕ) (best : Meeting) → a ≡ getD rs i [] → b ≡ getD rs j [] → i < length rs → j < length rs →
+    Good rs best → Good rs (next i a j b best)
 next-good rs i j a b best ea eb li lj h =
     pick-good (eqb i j) rs best (longer best (meeting i a j b)) h
     (λ n. pick-good (ltb (best .length) (overlap a b)) rs (meeting i a j b) best
     (inr (record { i-below = li; j-below = lj; differ = λ e. n (subst (λ (k : ℕ). T (eqb i k)) e (eqb-refl i)); size = ap₂ overlap ea eb }))
     (λ m. h))
 
-with-good : (rs : List (List ℕ)) (i : ℕ) (a : List ℕ) (j : ℕ) (bs : List (List ℕ)) (best : Meeting) → a ≡ getD rs i [] → i < length rs → From rs j bs → Good rs best → Good rs (longestWith i a j bs best)
+with-good : (rs : List (List ℕ)) (i : ℕ) (a : List ℕ) (j : ℕ) (bs : List (List ℕ)) (best : Meeting) → a ≡ getD rs i [] → i < length rs →
+    From rs j bs → Good rs best → Good rs (longestWith i a j bs best)
 with-good rs i a j [] best e l f h = h
 with-good rs i a j (b ∷ bs) best e l f h =
     with-good rs i a (suc j) bs (next i a j b best) e l (from-tail rs j b bs f)
     (next-good rs i j a b best e (from-head rs j b bs f) l (omega (arith, f .1)) h)
 
-from-good : (rs : List (List ℕ)) (i : ℕ) (more : List (List ℕ)) (best : Meeting) → From rs i more → From rs 0 rs → Good rs best → Good rs (longestFrom i rs more best)
+from-good : (rs : List (List ℕ)) (i : ℕ) (more : List (List ℕ)) (best : Meeting) → From rs i more → From rs 0 rs → Good rs best →
+    Good rs (longestFrom i rs more best)
 from-good rs i [] best f g h = h
 from-good rs i (a ∷ more) best f g h =
     from-good rs (suc i) more (longestWith i a 0 rs best) (from-tail rs i a more f) g

@@ -1,35 +1,36 @@
 -- Lowest price and marks: a cover is of lowest price exactly when marks show it, that is, no slack is below 0 and the bound equals its price;
 -- and the marks of one lowest-price cover show every other. This is why a checker that looks for equality accepts neither too much nor too little.
-use mathlib.Core.Path.{_≡_, sym, subst, _∙_}
+use mathlib.Core.Path.{_≡_, subst, _∙_}
 use mathlib.Core.List.{List}
 use mathlib.Core.Logic.{_↔_}
 use Rattle.mathematics.specs.Price.{Prices, Le, Ordered}
-use Rattle.mathematics.specs.Graph.{Graph}
+use Rattle.mathematics.specs.Graph.{Graph, WellFormed}
 use Rattle.mathematics.specs.Cover.{Weighted, IsCover, price, IsLowest}
 use Rattle.mathematics.specs.Bound.{Marks, SlacksHold, bound}
+use Rattle.mathematics.proofs.LowerBound.{bound-below-cover}
+
+-- the marks show that W costs no more than it must
+abbrev pub Shows : (P : Prices) → Graph (P .El) → Marks (P .El) → List Weighted → Type 0
+Shows P G m W = SlacksHold P G m × (bound P G m ≡ price P G W)
 
 module _ (P : Prices) (L : Ordered P) (G : Graph (P .El)) where
-  -- the marks show that W costs no more than it must
-  abbrev pub Shows : Marks (P .El) → List Weighted → Type 0
-  Shows m W = SlacksHold P G m × (bound P G m ≡ price P G W)
-
   -- two covers of lowest price have the same price
   pub lowest-prices-equal : (U W : List Weighted) → IsLowest P G U → IsLowest P G W → price P G U ≡ price P G W
   lowest-prices-equal U W u w = L .le-antisym (price P G U) (price P G W) (u .lowest W (w .cover)) (w .lowest U (u .cover))
 
   -- the marks of one lowest-price cover serve every lowest-price cover
-  pub same-marks-serve : (m : Marks (P .El)) (U W : List Weighted) → IsLowest P G U → IsLowest P G W → Shows m U → Shows m W
+  pub same-marks-serve : (m : Marks (P .El)) (U W : List Weighted) → IsLowest P G U → IsLowest P G W → Shows P G m U → Shows P G m W
   same-marks-serve m U W u w s = (s .0, s .1 ∙ lowest-prices-equal U W u w)
 
-  module _ (below : (m : Marks (P .El)) → SlacksHold P G m → (W : List Weighted) → IsCover G W → Le P (bound P G m) (price P G W)) where
+  module _ (g : WellFormed G) where
     -- what marks show is lowest
-    pub shown-is-lowest : (m : Marks (P .El)) (W : List Weighted) → IsCover G W → Shows m W → IsLowest P G W
+    pub shown-is-lowest : (m : Marks (P .El)) (W : List Weighted) → IsCover G W → Shows P G m W → IsLowest P G W
     shown-is-lowest m W c s =
-        record { cover = c; lowest = λ U u. subst (λ x. Le P x (price P G U)) (s .1) (below m (s .0) U u) }
+        record { cover = c; lowest = λ U u. subst (λ x. Le P x (price P G U)) (s .1) (bound-below-cover P L G g m (s .0) U u) }
 
     -- a cover is of lowest price exactly when some marks show it
-    pub lowest-iff-marks : (best : (W : List Weighted) → IsCover G W → (U : List Weighted) × (m : Marks (P .El)) × IsCover G U × Shows m U) →
-        (W : List Weighted) → IsLowest P G W ↔ (IsCover G W × ((m : Marks (P .El)) × Shows m W))
+    pub lowest-iff-marks : (best : (W : List Weighted) → IsCover G W → (U : List Weighted) × (m : Marks (P .El)) × IsCover G U × Shows P G m U) →
+        (W : List Weighted) → IsLowest P G W ↔ (IsCover G W × ((m : Marks (P .El)) × Shows P G m W))
     lowest-iff-marks best W = (
       λ w.
           let (U, m, c, s) = best W (w .cover) in

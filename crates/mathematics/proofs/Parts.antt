@@ -1,15 +1,15 @@
 -- A list that stands in another, as an equation of ++: `holds` and `begins` read so, cuts of one list compared (Levi), and lists whose numbers rise.
-use Prim.Native.Nat.{ℕ, zero, suc, _+_, _≤_, _<_}
+use Prim.Native.Nat.{ℕ, _≤_, _<_}
 use native.Mathlib.Omega.{arith}
 use mathlib.Core.Path.{_≡_, refl, sym, ap, ap₂, subst, _∙_}
-use mathlib.Core.List.{List, [], _∷_, _++_, append-nil, append-assoc, nil≢cons, cons≢nil, head-eq-of-cons-eq, tail-eq-of-cons-eq}
-use mathlib.Core.Bool.{Bool, true, false, _&&_, _||_}
+use mathlib.Core.List.{List, [], _∷_, _++_, append-nil, append-assoc, head-eq-of-cons-eq, tail-eq-of-cons-eq}
 use mathlib.Core.Logic.{_⊎_, inl, inr}
 use lib.Dec.{T, eqb, eqb→eq, eqb-refl}
-use lib.ListN.{length, length-append}
+use lib.ListN.{length}
 use Rattle.mathematics.specs.Lists.{All, begins, holds, someHolds}
 use Rattle.mathematics.specs.Range.{OneOf}
 use Rattle.mathematics.proofs.Basics.{and-l, and-r, and-in, or-cases, or-l, or-r, all-right}
+use Rattle.mathematics.proofs.Merge.{some-holds}
 
 -- r stands in p
 abbrev pub Within : List ℕ → List ℕ → Type 0
@@ -56,9 +56,7 @@ some-held (p ∷ ps) r h =
     ]
 
 pub held-some : (ps : List (List ℕ)) (r p : List ℕ) → OneOf ps p → Within r p → T (someHolds ps r)
-held-some [] r p m w = absurd m
-held-some (q ∷ ps) r p (inl e) w = or-l (holds q r) (someHolds ps r) (within-holds q r (subst (Within r) e w))
-held-some (q ∷ ps) r p (inr m) w = or-r (holds q r) (someHolds ps r) (held-some ps r p m w)
+held-some ps r p m w = some-holds p ps r m (within-holds p r w)
 
 pub within-self : (r : List ℕ) → Within r r
 within-self r = ([], [], sym (append-nil r))
@@ -69,6 +67,9 @@ within-trans r s t u w =
 
 pub held-trans : (ps : List (List ℕ)) (r s : List ℕ) → Within r s → Held ps s → Held ps r
 held-trans ps r s w h = (h .0, h .1, within-trans r s (h .0) w (h .2))
+
+pub regroup : (a x o b : List ℕ) → a ++ ((x ++ o) ++ b) ≡ (a ++ x) ++ (o ++ b)
+regroup a x o b = simp append-assoc
 
 -- one cut of a list is before the other
 abbrev pub Cuts : List ℕ → List ℕ → List ℕ → List ℕ → Type 0
@@ -87,7 +88,8 @@ levi (x ∷ a) b (y ∷ c) d e = cuts-after x y a b c d (head-eq-of-cons-eq e) (
 -- a list that stands in l ++ (o ++ r) stands in l ++ o, or in o ++ r, or reaches beyond o on both sides
 abbrev pub Across : List ℕ → List ℕ → List ℕ → List ℕ → Type 0
 Across k l o r =
-    (before : List ℕ) × (after : List ℕ) × (u : List ℕ) × (w : List ℕ) × (k ≡ before ++ (o ++ after)) × (l ≡ u ++ before) × (r ≡ after ++ w) × (1 ≤ length before) × (1 ≤ length after)
+    (before : List ℕ) × (after : List ℕ) × (u : List ℕ) × (w : List ℕ) ×
+    (k ≡ before ++ (o ++ after)) × (l ≡ u ++ before) × (r ≡ after ++ w) × (1 ≤ length before) × (1 ≤ length after)
 
 abbrev pub Parts : List ℕ → List ℕ → List ℕ → List ℕ → Type 0
 Parts k l o r = Within k (l ++ o) ⊎ (Within k (o ++ r) ⊎ Across k l o r)
@@ -118,7 +120,7 @@ abbrev pub Rising : List ℕ → Type 0
 Rising [] = Unit {0}
 Rising (v ∷ p) = All (λ w. v < w) p × Rising p
 
-pub rising-right : (l r : List ℕ) → Rising (l ++ r) → Rising r
+rising-right : (l r : List ℕ) → Rising (l ++ r) → Rising r
 rising-right [] r h = h
 rising-right (x ∷ l) r h = rising-right l r (h .1)
 

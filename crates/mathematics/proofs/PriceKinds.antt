@@ -152,7 +152,8 @@ pair-total : (a b : Pair) → Le pairs a b ⊎ Le pairs b a
 unfolding PairLe
 pair-total a b = at (test (leZ (a .first) (b .first))) (test (leZ (b .first) (a .first))) (total-ℤ (a .second) (b .second))
   where
-    at : T (leZ (a .first) (b .first)) ⊎ (T (leZ (a .first) (b .first)) → ⊥) → T (leZ (b .first) (a .first)) ⊎ (T (leZ (b .first) (a .first)) → ⊥) → T (leZ (a .second) (b .second)) ⊎ T (leZ (b .second) (a .second)) → Le pairs a b ⊎ Le pairs b a
+    at : T (leZ (a .first) (b .first)) ⊎ (T (leZ (a .first) (b .first)) → ⊥) → T (leZ (b .first) (a .first)) ⊎ (T (leZ (b .first) (a .first)) → ⊥) →
+        T (leZ (a .second) (b .second)) ⊎ T (leZ (b .second) (a .second)) → Le pairs a b ⊎ Le pairs b a
     at (inr f) k s = inr (pair-in b a (inl (not-below (b .first) (a .first) f)))
     at (inl h) (inr f) s = inl (pair-in a b (inl (not-below (a .first) (b .first) f)))
     at (inl h) (inl k) (inl s) = inl (pair-in a b (inr (h, s)))

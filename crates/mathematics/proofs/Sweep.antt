@@ -3,17 +3,17 @@
 -- has no more pieces than there were, so there are no more walks than links; and a pairing keeps the worth of the flow, whatever the links are worth.
 use Prim.Native.Nat.{ℕ, zero, suc, pred, _+_, _*_, _-_, _≤_, _<_}
 use mathlib.Core.Path.{_≡_, refl, sym, ap, subst, subst₂, _∙_}
-use mathlib.Core.List.{List, [], _∷_, _++_, map}
-use mathlib.Core.Bool.{Bool, true, false, not, cond}
+use mathlib.Core.List.{List, [], _∷_, _++_}
+use mathlib.Core.Bool.{Bool}
 use mathlib.Core.Logic.{_⊎_, inl, inr, _≢_}
-use native.Mathlib.Nat.{mul-add, add-mul, add-zero, le-refl, le-trans, lt-suc-self}
+use native.Mathlib.Nat.{eq-zero-or-pos, mul-add, add-mul, add-zero, le-refl, le-trans, lt-suc-self}
 use native.Mathlib.Omega.{arith}
 use lib.Dec.{T, eqb, eqb→eq, eqb-refl, leb, leb→le, nleb→lt, ltb→lt, not-T}
 use lib.ListN.{length, length-append}
 use Rattle.mathematics.specs.Lists.{All}
 use Rattle.mathematics.specs.Cover.{oneIf}
 use Rattle.mathematics.proofs.Basics.{all-append, all-from, all-weaken, test, is-true, is-false}
-use Rattle.mathematics.proofs.Loads.{Load, sumOver, worth, one, none, passing, failing, sumOver-append, worth-append, worth-same, worth-none, worth-nothing, worth-empty, worth-parts, length-parts, all-passing, all-failing, relabel, worth-relabel, length-relabel, all-relabel, isPresent, worth-present}
+use Rattle.mathematics.proofs.Loads.{unequal, Load, sumOver, worth, one, none, passing, failing, sumOver-append, worth-append, worth-same, worth-none, worth-nothing, worth-empty, worth-parts, length-parts, all-passing, all-failing, relabel, worth-relabel, length-relabel, all-relabel, isPresent, worth-present}
 
 -- a walk from one node to another, along links
 pub record Walk (L : Type 0) : Type 0 where
@@ -39,7 +39,8 @@ enters x w = oneIf (eqb (w .to) x)
 record Paired {L : Type 0} (A B : List (Load (Walk L))) : Type 1 where
   pieces : List (Load (Walk L))
   few : length pieces ≤ length A + length B
-  made : (Q Q₁ Q₂ : Walk L → Type 0) → ((a b : Walk L) → Q₁ a → Q₂ b → Q (join a b)) → All (λ p. Q₁ (p .what)) A → All (λ p. Q₂ (p .what)) B → All (λ p. Q (p .what)) pieces
+  made : (Q Q₁ Q₂ : Walk L → Type 0) → ((a b : Walk L) → Q₁ a → Q₂ b → Q (join a b)) → All (λ p. Q₁ (p .what)) A → All (λ p. Q₂ (p .what)) B →
+      All (λ p. Q (p .what)) pieces
   worths : (g g₁ g₂ : Walk L → ℕ) → ((a b : Walk L) → g (join a b) ≡ g₁ a + g₂ b) → worth g pieces ≡ worth g₁ A + worth g₂ B
 
 -- one of two numbers is the other and something
@@ -110,9 +111,6 @@ module _ {L : Type 0} where
 
   parts : (x : ℕ) (g : Walk L → ℕ) (ps : List (Load (Walk L))) → worth g ps ≡ worth g (entering x ps) + (worth g (leaving x ps) + worth g (others x ps))
   parts x g ps = worth-parts (endsAt x) g ps ∙ ap (λ (n : ℕ). worth g (entering x ps) + n) (worth-parts (beginsAt x) g (failing (endsAt x) ps))
-
-unequal : (m n : ℕ) → (T (eqb m n) → ⊥) → m ≢ n
-unequal m n h e = h (subst (λ (k : ℕ). T (eqb m k)) e (eqb-refl m))
 
 if-equal : {m n : ℕ} → m ≡ n → oneIf (eqb m n) ≡ 1
 if-equal {m} {n} e = ap oneIf (is-true (eqb m n) (subst (λ (k : ℕ). T (eqb m k)) e (eqb-refl m)))
@@ -202,9 +200,11 @@ module _ {L : Type 0} (start finish : L → ℕ) (Good : L → Type 0) where
           parts (suc k) (leaves (suc k)) ps,
           before .balanced (suc k) (lt-suc-self k) inside,
           worth-same (Entering M k) (enters (suc k)) one (entering (suc k) ps) entering-are (λ p h. if-equal (h .2)),
-          worth-nothing (Leaving M k) (enters (suc k)) (leaving (suc k) ps) leaving-are (λ p h. if-unequal (p .what .to) (suc k) (λ q. omega (arith, h .0 .rises, h .1))),
+          worth-nothing (Leaving M k) (enters (suc k)) (leaving (suc k) ps) leaving-are
+              (λ p h. if-unequal (p .what .to) (suc k) (λ q. omega (arith, h .0 .rises, h .1))),
           worth-nothing (Other M k) (enters (suc k)) (others (suc k) ps) others-are (λ p h. if-unequal (p .what .to) (suc k) (h .2)),
-          worth-nothing (Entering M k) (leaves (suc k)) (entering (suc k) ps) entering-are (λ p h. if-unequal (p .what .from) (suc k) (λ q. omega (arith, h .1))),
+          worth-nothing (Entering M k) (leaves (suc k)) (entering (suc k) ps) entering-are
+              (λ p h. if-unequal (p .what .from) (suc k) (λ q. omega (arith, h .1))),
           worth-same (Leaving M k) (leaves (suc k)) one (leaving (suc k) ps) leaving-are (λ p h. if-equal (h .1)),
           worth-nothing (Other M k) (leaves (suc k)) (others (suc k) ps) others-are (λ p h. if-unequal (p .what .from) (suc k) (h .1)),
         )
@@ -212,7 +212,8 @@ module _ {L : Type 0} (start finish : L → ℕ) (Good : L → Type 0) where
     paired : Paired (entering (suc k) ps) (leaving (suc k) ps)
     paired = pair-up (length (entering (suc k) ps) + length (leaving (suc k) ps)) _ _ (le-refl _) as-much
 
-    still-balanced : (x : ℕ) → suc k < x → x < M → worth (enters x) (paired .pieces ++ others (suc k) ps) ≡ worth (leaves x) (paired .pieces ++ others (suc k) ps)
+    still-balanced : (x : ℕ) → suc k < x → x < M →
+        worth (enters x) (paired .pieces ++ others (suc k) ps) ≡ worth (leaves x) (paired .pieces ++ others (suc k) ps)
     still-balanced x l m =
         simp worth-append
         (omega (
@@ -235,10 +236,14 @@ module _ {L : Type 0} (start finish : L → ℕ) (Good : L → Type 0) where
           pieces = paired .pieces ++ others (suc k) ps;
           state =
               record {
-                swept = all-append (λ p. Swept M (suc k) (p .what)) (paired .pieces) (others (suc k) ps) (paired .made (Swept M (suc k)) _ _ joined entering-are leaving-are) (all-weaken (Other M k) (λ p. Swept M (suc k) (p .what)) (others (suc k) ps) kept others-are);
+                swept =
+                    all-append (λ p. Swept M (suc k) (p .what)) (paired .pieces) (others (suc k) ps)
+                    (paired .made (Swept M (suc k)) _ _ joined entering-are leaving-are)
+                    (all-weaken (Other M k) (λ p. Swept M (suc k) (p .what)) (others (suc k) ps) kept others-are);
                 balanced = still-balanced;
               };
-          few = simp length-append (omega (arith, paired .few, length-parts (endsAt (suc k)) ps, length-parts (beginsAt (suc k)) (failing (endsAt (suc k)) ps)));
+          few =
+              simp length-append (omega (arith, paired .few, length-parts (endsAt (suc k)) ps, length-parts (beginsAt (suc k)) (failing (endsAt (suc k)) ps)));
           same = λ g. worth-append (along g) (paired .pieces) (others (suc k) ps) ∙ same-worth g;
         }
       where
@@ -249,7 +254,9 @@ module _ {L : Type 0} (start finish : L → ℕ) (Good : L → Type 0) where
               ends = omega (arith, s′ .rises);
               rises = omega (arith, s′ .rises);
               within = s′ .within;
-              leads = chain-append (a .from) (a .to) (b .to) (a .links) (b .links) (s .leads) (subst (λ (n : ℕ). Chain n (b .to) (b .links)) (e′ ∙ sym e) (s′ .leads));
+              leads =
+                  chain-append (a .from) (a .to) (b .to) (a .links) (b .links) (s .leads)
+                  (subst (λ (n : ℕ). Chain n (b .to) (b .links)) (e′ ∙ sym e) (s′ .leads));
             }
 
         later : (w : Walk L) → w .from ≢ suc k → (w .from ≡ 0) ⊎ (k < w .from) → (w .from ≡ 0) ⊎ (suc k < w .from)
@@ -257,7 +264,8 @@ module _ {L : Type 0} (start finish : L → ℕ) (Good : L → Type 0) where
         later w n (inr l) = inr (omega arith)
 
         kept : (p : Load (Walk L)) → Swept M k (p .what) × (p .what .from ≢ suc k) × (p .what .to ≢ suc k) → Swept M (suc k) (p .what)
-        kept p (s, n, m) = record { begins = later (p .what) n (s .begins); ends = omega (arith, s .ends); rises = s .rises; within = s .within; leads = s .leads }
+        kept p (s, n, m) =
+            record { begins = later (p .what) n (s .begins); ends = omega (arith, s .ends); rises = s .rises; within = s .within; leads = s .leads }
 
         same-worth : (g : L → ℕ) → worth (along g) (paired .pieces) + worth (along g) (others (suc k) ps) ≡ worth (along g) ps
         same-worth g =
@@ -298,14 +306,10 @@ module _ {L : Type 0} (start finish : L → ℕ) (Good : L → Type 0) where
         balanced = λ x l m. worth-relabel single (enters x) loads ∙ (balance x l m ∙ sym (worth-relabel single (leaves x) loads));
       }
     where
-      zero-or-more : (n : ℕ) → (n ≡ 0) ⊎ (0 < n)
-      zero-or-more zero = inl refl
-      zero-or-more (suc n) = inr (omega arith)
-
       one-of : (l : Load L) → Rising M l × T (isPresent l) → Swept M 0 (single (l .what))
       one-of l ((up, high, good), t) =
           record {
-            begins = zero-or-more (start (l .what));
+            begins = eq-zero-or-pos (start (l .what));
             ends = omega arith;
             rises = up;
             within = high;
@@ -322,7 +326,8 @@ module _ {L : Type 0} (start finish : L → ℕ) (Good : L → Type 0) where
   finished : (M : ℕ) → 1 ≤ M → (loads : List (Load L)) → Next M (pred M) (relabel single loads) → Split M loads
   finished M pos loads all =
       let left : List (Load (Walk L)) = passing isPresent (all .pieces) in
-      let known : All (λ p. Swept M (pred M) (p .what) × T (isPresent p)) left = all-passing isPresent (λ p. Swept M (pred M) (p .what)) (all .pieces) (all .state .swept) in
+      let known : All (λ p. Swept M (pred M) (p .what) × T (isPresent p)) left =
+      all-passing isPresent (λ p. Swept M (pred M) (p .what)) (all .pieces) (all .state .swept) in
       record {
         walks = relabel (λ w. w .links) left;
         amounts = all-relabel _ (λ p. Swept M (pred M) (p .what) × T (isPresent p)) (λ w. 1 ≤ w .amount) left known (λ p h. ltb→lt 0 (p .amount) (h .1));

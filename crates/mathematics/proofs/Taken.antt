@@ -1,12 +1,12 @@
 -- One element taken out of a list, wherever it stands: what holds of all, or of any two, holds before exactly when it holds after and of what was taken.
-use Prim.Native.Nat.{ℕ, zero, suc, _+_, _≤_}
-use mathlib.Core.Path.{_≡_, refl, sym, ap, subst}
+use Prim.Native.Nat.{suc}
+use mathlib.Core.Path.{_≡_, refl, ap, subst}
 use mathlib.Core.List.{List, [], _∷_}
 use mathlib.Core.Logic.{_⊎_, inl, inr}
 use lib.ListN.{length}
 use Rattle.mathematics.specs.Lists.{All}
 use Rattle.mathematics.specs.Range.{OneOf}
-use Rattle.mathematics.proofs.Basics.{all-among, all-from, all-weaken}
+use Rattle.mathematics.proofs.Basics.{all-among, all-from}
 use Rattle.mathematics.proofs.WithReads.{Pairwise}
 
 -- the second list is the first without x
@@ -32,13 +32,11 @@ module _ {A : Type 0} where
   take-one x (y ∷ xs) (inl e) = (xs, subst (λ (z : A). Taken x (z ∷ xs) xs) e here)
   take-one x (y ∷ xs) (inr m) = let t = take-one x xs m in (y ∷ t .0, there (t .1))
 
-  pub taken-among : {x : A} {xs ys : List A} → Taken x xs ys → OneOf xs x
-  taken-among {xs} t = taken-all (OneOf xs) t (all-from (OneOf xs) xs (λ y m. m)) .0
-
   -- one of the whole is the one taken or one of what is left
   pub taken-cases : {x : A} {xs ys : List A} → Taken x xs ys → (z : A) → OneOf xs z → (z ≡ x) ⊎ OneOf ys z
   taken-cases {x} {xs} {ys} t z m =
-      all-among (λ (y : A). (y ≡ x) ⊎ OneOf ys y) xs z (put-all (λ (y : A). (y ≡ x) ⊎ OneOf ys y) t (inl refl) (all-from (λ (y : A). (y ≡ x) ⊎ OneOf ys y) ys (λ y n. inr n))) m
+      let P : A → Type 0 = λ y. (y ≡ x) ⊎ OneOf ys y in
+      all-among P xs z (put-all P t (inl refl) (all-from P ys (λ y n. inr n))) m
 
   -- two are taken in either order
   pub taken-swap : {x y : A} {xs ys zs : List A} → Taken x xs ys → Taken y ys zs → (us : List A) × Taken y xs us × Taken x us zs
@@ -58,6 +56,11 @@ module _ {A : Type 0} where
     put-pairwise here p h = (p, h)
     put-pairwise {x} (there {y} {xs} {ys} t) p h = (put-all (R y) t (swap x y (p .0)) (h .0), put-pairwise t (p .1) (h .1))
 
-  pub pairwise-weaken : (R S : A → A → Type 0) (xs : List A) → ((x y : A) → R x y → S x y) → Pairwise R xs → Pairwise S xs
-  pairwise-weaken R S [] f h = tt
-  pairwise-weaken R S (x ∷ xs) f h = (all-weaken (R x) (S x) xs (f x) (h .0), pairwise-weaken R S xs f (h .1))
+  pub all-both : (P Q S : A → Type 0) (xs : List A) → ((x : A) → P x → Q x → S x) → All P xs → All Q xs → All S xs
+  all-both P Q S [] f h k = tt
+  all-both P Q S (x ∷ xs) f h k = (f x (h .0) (k .0), all-both P Q S xs f (h .1) (k .1))
+
+  pub pairwise-both : (P Q S : A → A → Type 0) (xs : List A) → ((x y : A) → P x y → Q x y → S x y) → Pairwise P xs → Pairwise Q xs →
+      Pairwise S xs
+  pairwise-both P Q S [] f h k = tt
+  pairwise-both P Q S (x ∷ xs) f h k = (all-both (P x) (Q x) (S x) xs (f x) (h .0) (k .0), pairwise-both P Q S xs f (h .1) (k .1))

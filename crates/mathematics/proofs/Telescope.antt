@@ -37,7 +37,8 @@ module _ (P : Prices) where
 
   -- no term of the bound with rs for the prepared reads is negative
   pub record TermsHold (rs : List (List ℕ)) (G : Graph (P .El)) (m : Marks (P .El)) : Type 0 where
-    pub vertex-terms : (v : ℕ) → v < length (G .vertices) → Le P (P .nil) (times P (rest rs (vert v) (getD (G .vertices) v noVertex .demand)) (vertexSlack P m v))
+    pub vertex-terms : (v : ℕ) → v < length (G .vertices) →
+        Le P (P .nil) (times P (rest rs (vert v) (getD (G .vertices) v noVertex .demand)) (vertexSlack P m v))
     pub arc-terms : All (λ a. Le P (P .nil) (times P (rest rs (arc (a .tail) (a .head)) (a .demand)) (arcSlack P m a))) (G .arcs)
     pub read-terms : All (λ r. Le P (P .nil) (readTerm P G m r)) rs
 
@@ -60,7 +61,8 @@ module _ (P : Prices) (L : Ordered P) where
       Algebra.nil-add P L (m .into v) ∙
       (sym (Algebra.sub-add P L (m .into v) (m .out v)) ∙ ap (λ x. P .add x (m .out v)) (sym (L .add-nil (vertexSlack P m v))))
   costs-telescope G m u (v ∷ p) =
-      step (m .into u) (m .out u) (costOf P (G .arcs) u v) (m .into v) (arcCosts P (G .arcs) (v ∷ p)) (P .add (slacksAlong P G m (v ∷ p)) (m .out (lastOf v p))) (costs-telescope G m v p) ∙
+      step (m .into u) (m .out u) (costOf P (G .arcs) u v) (m .into v) (arcCosts P (G .arcs) (v ∷ p))
+      (P .add (slacksAlong P G m (v ∷ p)) (m .out (lastOf v p))) (costs-telescope G m v p) ∙
       regroup (vertexSlack P m u) (itemSlack P G m (arc u v)) (slacksAlong P G m (v ∷ p)) (m .out (lastOf v p))
     where
       regroup : (a b c d : P .El) → P .add a (P .add b (P .add c d)) ≡ P .add (P .add a (P .add b c)) d
@@ -120,22 +122,27 @@ module _ (P : Prices) (L : Ordered P) where
     -- the slack of each vertex and arc of the graph is not below 0
     pub item-slack-holds : WellFormed G → (i : Item) → Known G i → Le P (P .nil) (itemSlack P G m i)
     item-slack-holds g (vert v) k =
-        and-r (cond (isEnd G v) (P .leb (P .nil) (endSlack P m v)) true) _ (and-r (cond (isStart G v) (P .leb (P .nil) (startSlack P G m v)) true) _ (at-vertex v k))
+        and-r (cond (isEnd G v) (P .leb (P .nil) (endSlack P m v)) true) _
+        (and-r (cond (isStart G v) (P .leb (P .nil) (startSlack P G m v)) true) _ (at-vertex v k))
     item-slack-holds g (arc u v) k =
         let (a, among, tails, heads) = joining-arc (G .arcs) u v k in
         subst₂ (λ x y. Le P (P .nil) (itemSlack P G m (arc x y))) tails heads
         (subst (Le P (P .nil)) (sym (arc-slack-own G m g a among)) (all-among (λ b. T (arcSlackHolds P m b)) (G .arcs) a (s .arcs-hold) among))
 
     slacks-along-hold : WellFormed G → (p : List ℕ) → All (Known G) (trail p) → Le P (P .nil) (slacksAlong P G m p)
-    slacks-along-hold g p k = Algebra.sum-holds P L (itemSlack P G m) (trail p) (all-weaken (Known G) (λ i. Le P (P .nil) (itemSlack P G m i)) (trail p) (item-slack-holds g) k)
+    slacks-along-hold g p k =
+        Algebra.sum-holds P L (itemSlack P G m) (trail p)
+        (all-weaken (Known G) (λ i. Le P (P .nil) (itemSlack P G m i)) (trail p) (item-slack-holds g) k)
 
     -- "Where no slack is below 0, no term of the bound is negative."
     pub bound-terms-hold : WellFormed G → (rs : List (List ℕ)) → All (λ r. (2 ≤ length r) × T (linked (G .arcs) r)) rs → TermsHold P rs G m
     bound-terms-hold g rs h =
         record {
-          vertex-terms = λ v l. Algebra.times-holds P L (rest rs (vert v) (getD (G .vertices) v noVertex .demand)) (vertexSlack P m v) (item-slack-holds g (vert v) l);
+          vertex-terms = λ v l.
+              Algebra.times-holds P L (rest rs (vert v) (getD (G .vertices) v noVertex .demand)) (vertexSlack P m v) (item-slack-holds g (vert v) l);
           arc-terms =
-              all-weaken (λ a. T (arcSlackHolds P m a)) (λ (a : Arc (P .El)). Le P (P .nil) (times P (rest rs (arc (a .tail) (a .head)) (a .demand)) (arcSlack P m a))) (G .arcs)
+              all-weaken (λ a. T (arcSlackHolds P m a))
+              (λ (a : Arc (P .El)). Le P (P .nil) (times P (rest rs (arc (a .tail) (a .head)) (a .demand)) (arcSlack P m a))) (G .arcs)
               (λ a t. Algebra.times-holds P L (rest rs (arc (a .tail) (a .head)) (a .demand)) (arcSlack P m a) t) (s .arcs-hold);
           read-terms =
               all-weaken (λ r. (2 ≤ length r) × T (linked (G .arcs) r)) (λ r. Le P (P .nil) (readTerm P G m r)) rs

@@ -16,6 +16,10 @@ use Rattle.mathematics.proofs.Algebra.{sumBy}
 use Rattle.mathematics.proofs.Items.{Known, known-path, known-read, sum-by-count}
 use Rattle.mathematics.proofs.Telescope.{itemSlack, slacksAlong, slacksAtEnds, path-price-telescopes, read-term-telescopes, arc-slack-own}
 
+-- an ask's rest and the reads through its item: its demand, or the reads where those are more
+abbrev pub owed : List (List ℕ) → Ask → ℕ
+owed rs a = rest rs (a .item) (a .demand) + readsThrough (a .item) rs
+
 -- f of each asking item, as often as c says
 abbrev pub countedSum : (P : Prices) {E : Type 0} → (Item → P .El) → Graph E → (Ask → ℕ) → P .El
 countedSum P f G c = sumBy P (λ a. times P (c a) (f (a .item))) (asks G)
@@ -71,9 +75,11 @@ module _ (P : Prices) (L : Ordered P) (G : Graph (P .El)) where
   price-split [] = sym (L .add-nil (P .nil))
   price-split (w ∷ W) =
       ap₂ (P .add)
-      (ap (λ x. times P (w .weight) (P .add (G .opening) x)) (costs-along (w .path)) ∙ Algebra.times-add P L (w .weight) (G .opening) (sumBy P (itemCost P G) (trail (w .path))))
+      (ap (λ x. times P (w .weight) (P .add (G .opening) x)) (costs-along (w .path)) ∙
+      Algebra.times-add P L (w .weight) (G .opening) (sumBy P (itemCost P G) (trail (w .path))))
       (price-split W) ∙
-      (Algebra.swap-middle P L _ _ _ _ ∙ ap (λ x. P .add x (sumBy P (λ v. times P (v .weight) (sumBy P (itemCost P G) (trail (v .path)))) (w ∷ W))) (sym (Algebra.times-sum P L (w .weight) (totalWeight W) (G .opening))))
+      (Algebra.swap-middle P L _ _ _ _ ∙ ap (λ x. P .add x (sumBy P (λ v. times P (v .weight) (sumBy P (itemCost P G) (trail (v .path)))) (w ∷ W)))
+      (sym (Algebra.times-sum P L (w .weight) (totalWeight W) (G .opening))))
 
   -- the price, from the number of copies and the totals of the items
   pub price-from-totals : WellFormed G → (W : List Weighted) → All (λ w. T (isPath G (w .path))) W →
@@ -95,11 +101,13 @@ module _ (P : Prices) (L : Ordered P) (G : Graph (P .El)) where
     copy-price (v ∷ p) t = path-price-telescopes P L G m v p
 
     slacks-split : (W : List Weighted) → All (λ w. T (isPath G (w .path))) W →
-        price P G W ≡ P .add (sumBy P (λ w. times P (w .weight) (slacksAtEnds P G m (w .path))) W) (sumBy P (λ w. times P (w .weight) (slacksAlong P G m (w .path))) W)
+        price P G W ≡ P .add (sumBy P (λ w. times P (w .weight) (slacksAtEnds P G m (w .path))) W)
+        (sumBy P (λ w. times P (w .weight) (slacksAlong P G m (w .path))) W)
     slacks-split [] h = sym (L .add-nil (P .nil))
     slacks-split (w ∷ W) h =
         ap₂ (P .add)
-        (ap (times P (w .weight)) (copy-price (w .path) (h .0)) ∙ Algebra.times-add P L (w .weight) (slacksAtEnds P G m (w .path)) (slacksAlong P G m (w .path)))
+        (ap (times P (w .weight)) (copy-price (w .path) (h .0)) ∙
+        Algebra.times-add P L (w .weight) (slacksAtEnds P G m (w .path)) (slacksAlong P G m (w .path)))
         (slacks-split W (h .1)) ∙
         Algebra.swap-middle P L _ _ _ _
 
@@ -107,7 +115,8 @@ module _ (P : Prices) (L : Ordered P) (G : Graph (P .El)) where
     pub price-from-slacks : WellFormed G → (W : List Weighted) → All (λ w. T (isPath G (w .path))) W →
         price P G W ≡ P .add (sumBy P (λ w. times P (w .weight) (slacksAtEnds P G m (w .path))) W) (countedSum P (itemSlack P G m) G (λ a. total (a .item) W))
     price-from-slacks g W h =
-        slacks-split W h ∙ ap (P .add (sumBy P (λ w. times P (w .weight) (slacksAtEnds P G m (w .path))) W)) (along-paths P L (itemSlack P G m) G g W (all-known G g W h))
+        slacks-split W h ∙ ap (P .add (sumBy P (λ w. times P (w .weight) (slacksAtEnds P G m (w .path))) W))
+        (along-paths P L (itemSlack P G m) G g W (all-known G g W h))
 
     vertex-terms-sum : (rs : List (List ℕ)) (k : ℕ) (xs : List Vertex) →
         vertexTerms P rs m k xs ≡ sumBy P (λ a. times P (rest rs (a .item) (a .demand)) (itemSlack P G m (a .item))) (vertexAsks k xs)
@@ -126,11 +135,12 @@ module _ (P : Prices) (L : Ordered P) (G : Graph (P .El)) where
 
     -- the bound, of each item its rest and its reads times its slack
     pub bound-from-slacks : WellFormed G → (rs : List (List ℕ)) → All (λ r. (2 ≤ length r) × T (linked (G .arcs) r)) rs →
-        boundWith P rs G m ≡ countedSum P (itemSlack P G m) G (λ a. rest rs (a .item) (a .demand) + readsThrough (a .item) rs)
+        boundWith P rs G m ≡ countedSum P (itemSlack P G m) G (λ a. owed rs a)
     bound-from-slacks g rs h =
         sym (L .add-assoc (vertexTerms P rs m 0 (G .vertices)) (arcTerms P rs m (G .arcs)) (readTerms P G m rs)) ∙
         (ap₂ (P .add)
         (ap₂ (P .add) (vertex-terms-sum rs 0 (G .vertices)) (arc-terms-sum rs (G .arcs) (all-from _ (G .arcs) (arc-slack-own P L G m g))) ∙
-        sym (Algebra.sum-append P L (λ a. times P (rest rs (a .item) (a .demand)) (itemSlack P G m (a .item))) (vertexAsks 0 (G .vertices)) (map arcAsk (G .arcs))))
+        sym (Algebra.sum-append P L (λ a. times P (rest rs (a .item) (a .demand)) (itemSlack P G m (a .item))) (vertexAsks 0 (G .vertices))
+        (map arcAsk (G .arcs))))
         (read-terms-sum rs ∙ along-reads P L (itemSlack P G m) G g rs (all-weaken _ _ rs (λ r k. known-read G (g .rises) r (k .0) (k .1)) h)) ∙
         counted-add P L (itemSlack P G m) G (λ a. rest rs (a .item) (a .demand)) (λ a. readsThrough (a .item) rs))
