@@ -18,7 +18,7 @@ unfoldable pub be64 : List ℕ → ℕ → ℕ
 be64 s at = be32 s at * 4294967296 + be32 s (at + 4)
 
 -- the count bytes from an offset on
-abbrev pub part : List ℕ → ℕ → ℕ → List ℕ
+unfoldable pub part : List ℕ → ℕ → ℕ → List ℕ
 part s at count = take count (drop at s)
 
 -- f at first, first + 1, .., count of them

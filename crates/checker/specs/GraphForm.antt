@@ -39,7 +39,7 @@ flags s v = byte s (vertexAt s v)
 abbrev pub vertexDemand : List ℕ → ℕ → ℕ
 vertexDemand s v = be32 s (vertexAt s v + 1)
 
--- "Then per arc tail (1), head (1), cost (4), demand (4)"
+-- "Then per arc tail (1), head (1), cost (4), demand (4)". An arc's fields are read at the offset of its record.
 abbrev pub arcLength : ℕ
 arcLength = 10
 
@@ -47,16 +47,16 @@ abbrev pub arcAt : List ℕ → ℕ → ℕ
 arcAt s a = vertexAt s (vertexCount s) + arcLength * a
 
 abbrev pub arcTail : List ℕ → ℕ → ℕ
-arcTail s a = byte s (arcAt s a)
+arcTail s at = byte s at
 
 abbrev pub arcHead : List ℕ → ℕ → ℕ
-arcHead s a = byte s (arcAt s a + 1)
+arcHead s at = byte s (at + 1)
 
 abbrev pub arcCost : List ℕ → ℕ → ℕ
-arcCost s a = be32 s (arcAt s a + 2)
+arcCost s at = be32 s (at + 2)
 
 abbrev pub arcDemand : List ℕ → ℕ → ℕ
-arcDemand s a = be32 s (arcAt s a + 6)
+arcDemand s at = be32 s (at + 6)
 
 -- "Then per read its vertex count (1) and its vertices (1 each)." A read is named by the offset of its record.
 abbrev pub firstReadAt : List ℕ → ℕ

@@ -5,7 +5,7 @@ use lib.Dec.{eqb}
 use lib.IntN.{ℤ, pos}
 use Rattle.mathematics.specs.Graph.{Vertex, Arc, Graph}
 use Rattle.checker.specs.Bytes.{tabulate}
-use Rattle.checker.specs.GraphForm.{vertexCount, arcCount, readCount, openingPrice, flags, vertexDemand, arcTail, arcHead, arcCost, arcDemand, firstReadAt, readVertices, readEnd}
+use Rattle.checker.specs.GraphForm.{vertexCount, arcCount, readCount, openingPrice, flags, vertexDemand, arcAt, arcTail, arcHead, arcCost, arcDemand, firstReadAt, readVertices, readEnd}
 
 -- "1 start, 2 end, 3 both, 0 neither"
 abbrev pub vertexOf : List ℕ → ℕ → Vertex
@@ -13,7 +13,13 @@ vertexOf s v =
     record { start = eqb (flags s v % 2) 1; end = eqb (flags s v / 2) 1; demand = vertexDemand s v }
 
 abbrev pub arcOf : List ℕ → ℕ → Arc ℤ
-arcOf s a = record { tail = arcTail s a; head = arcHead s a; cost = pos (arcCost s a); demand = arcDemand s a }
+arcOf s a =
+    record {
+      tail = arcTail s (arcAt s a);
+      head = arcHead s (arcAt s a);
+      cost = pos (arcCost s (arcAt s a));
+      demand = arcDemand s (arcAt s a);
+    }
 
 abbrev pub arcsOf : List ℕ → List (Arc ℤ)
 arcsOf s = tabulate (arcOf s) (arcCount s) 0

@@ -6,3 +6,5 @@ pub mod GraphOf
 pub mod AnswerForm
 pub mod AnswerFaults
 pub mod Check
+pub mod GraphReads
+pub mod ArcTable

@@ -1,0 +1,113 @@
+-- Theorems on a graph form that reads: a verdict of 0 says exactly that document 01's conditions hold; the graph it stands for is well formed, its
+-- costs hold and its sizes are within "Numbers allowed"; any two answers that the reader's promise allows are equal.
+use Prim.Native.Nat.{ℕ, zero, suc, _+_, _-_, _<_, _≤_, zero-le}
+use native.Mathlib.Omega.{arith}
+use mathlib.Core.Path.{_≡_, refl, sym, ap, ap₂, _∙_}
+use mathlib.Core.List.{List, [], _∷_, map}
+use mathlib.Core.Bool.{Bool, true, false, cond, _&&_, _||_}
+use mathlib.Core.Logic.{_⊎_, inl, inr, ⊎-elim, _↔_}
+use lib.Dec.{T, ltb, eqb}
+use lib.ListN.{length}
+use borrow.Author.Tests.{ltb-false, lt-ltb, le-ltb, eq-eqb, ne-eqb, eqb-true, eqb-false}
+use Rattle.mathematics.specs.Lists.{All, Distinct}
+use Rattle.mathematics.specs.Graph.{linked}
+use Rattle.checker.specs.declared.Verdict.{Verdict}
+use Rattle.checker.specs.GraphForm.{vertexAt, vertexCount, arcCount, arcAt, readCount, firstReadAt, readVertices, readEnd}
+use Rattle.checker.specs.GraphOf.{arcsOf, graphOf}
+use Rattle.checker.specs.GraphFaults.{refusal, nothingRefused, then, headerVerdict, firstFault, vertexFault, follows, ascends, arcFault, verticesVerdict, arcsVerdict, allBelow, walks, readFault, readsVerdict, graphVerdict}
+use Rattle.checker.specs.GraphReads.{HeaderRight, VertexRight, ArcRight, Before, ReadRight, ReadsRight, ArcsRight, Reads}
+use Rattle.checker.proofs.HeaderLaws.{header-right}
+use Rattle.checker.proofs.RecordLaws.{vertex-right, arc-last}
+use Rattle.checker.proofs.ReadLaws.{read-right}
+use Rattle.checker.proofs.RightLaws.{header-holds, vertex-holds, arc-holds, arcs-hold, read-holds, next-follows, before-follows, all-below, each-right, all-right}
+use Rattle.checker.proofs.ThenLaws.{then-passed}
+use Rattle.mathematics.proofs.Basics.{is-true}
+
+-- no refusal by the first, and none after it
+then-none : (v after : Verdict) → then v after .number ≡ 0 → (v .number ≡ 0) × (after .number ≡ 0)
+unfolding then
+then-none v after e = by (eqb (v .number) 0) refl e
+  where
+    by : (b : Bool) → eqb (v .number) 0 ≡ b → cond b after v .number ≡ 0 → (v .number ≡ 0) × (after .number ≡ 0)
+    by true t e = (eqb-true _ _ t, e)
+    by false t e = absurd (eqb-false _ _ t e)
+
+-- reads that are not refused are right, and end where the form ends
+reads-hold : (s : List ℕ) (count at : ℕ) → at ≤ length s → readsVerdict s count at .number ≡ 0 → ReadsRight s count at
+unfolding readsVerdict
+reads-hold s zero at h e = by (ltb at (length s)) refl e
+  where
+    by : (b : Bool) → ltb at (length s) ≡ b → cond b (refusal 5 at) nothingRefused .number ≡ 0 → at ≡ length s
+    by true t e = absurd (omega arith)
+    by false t e = omega (arith, ltb-false at (length s) t)
+reads-hold s (suc count) at h e = by (eqb (readFault s at) 0) refl e (reads-hold s count (readEnd s at))
+  where
+    by : (b : Bool) → eqb (readFault s at) 0 ≡ b → cond b (readsVerdict s count (readEnd s at)) (refusal (readFault s at) at) .number ≡ 0 → (readEnd s at ≤ length s → readsVerdict s count (readEnd s at) .number ≡ 0 → ReadsRight s count (readEnd s at)) → ReadRight s at × ReadsRight s count (readEnd s at)
+    by true t e more = let r = read-holds s at (eqb-true _ _ t) in (r, more (r .whole) e)
+    by false t e more = absurd (eqb-false _ _ t e)
+
+-- the records of vertices and arcs end within the form
+records-whole : (s : List ℕ) → ArcsRight s → ((v : ℕ) → v < vertexCount s → VertexRight s v) → firstReadAt s ≤ length s
+records-whole s right vertices = by (arcCount s) refl
+  where
+    by : (m : ℕ) → arcCount s ≡ m → firstReadAt s ≤ length s
+    by zero e = omega (arith, vertices (vertexCount s - 1) (omega (arith, right .header .some-vertex)) .whole, right .header .some-vertex)
+    by (suc a) e = omega (arith, right .each a (omega arith) .whole)
+
+-- Document 01, the table's numbers 1 to 7: "Given exactly when". Nothing is refused exactly where the form reads.
+reads-of-zero : (s : List ℕ) → graphVerdict s .number ≡ 0 → Reads s
+unfolding graphVerdict
+reads-of-zero s e =
+    let a = then-none (headerVerdict s) _ e in
+    let b = then-none (verticesVerdict s) _ (a .1) in
+    let c = then-none (arcsVerdict s) _ (b .1) in
+    let arcs = arcs-hold s (header-holds s (a .0)) (c .0) in
+    let vertices : (v : ℕ) → v < vertexCount s → VertexRight s v = λ v h. vertex-holds s v (each-right (vertexFault s) _ (vertexCount s) 0 (b .0) v (omega arith) (omega arith)) in
+    record { arcs = arcs; vertices = vertices; reads = reads-hold s (readCount s) (firstReadAt s) (records-whole s arcs vertices) (c .1) }
+
+read-passes : (s : List ℕ) (at : ℕ) → ReadRight s at → readFault s at ≡ 0
+unfolding walks
+read-passes s at r =
+    sym
+    (read-right s at (r .begins) (r .not-short) (r .not-long) (r .whole) refl
+    (ap₂ (λ x y. x && y) (sym (all-below (vertexCount s) (readVertices s at) (r .inside))) (sym (is-true _ (r .arcs)))) refl)
+
+reads-pass : (s : List ℕ) (count at : ℕ) → ReadsRight s count at → nothingRefused ≡ readsVerdict s count at
+unfolding readsVerdict
+reads-pass s zero at e = simp (le-ltb at (length s) (omega arith))
+reads-pass s (suc count) at r = simp (eq-eqb (readFault s at) 0 (read-passes s at (r .0))) (reads-pass s count (readEnd s at) (r .1))
+
+arc-passes : (s : List ℕ) → ArcsRight s → (a : ℕ) → a < arcCount s → arcFault s (arcAt s a) ≡ 0
+arc-passes s right a h =
+    let r = right .each a h in
+    sym (arc-last s (arcAt s a) (r .whole) (r .low-cost) (r .low-demand) (r .rises) (r .inside) (order a h))
+  where
+    order : (a : ℕ) → a < arcCount s → ascends s (arcAt s a) ≡ true
+    order zero h = simp (eq-eqb (arcAt s 0) (arcAt s 0) refl)
+    order (suc a) h = next-follows s a ∙ before-follows s _ _ (right .ascending a h)
+
+nothing-of-reads : (s : List ℕ) → Reads s → nothingRefused ≡ graphVerdict s
+unfolding graphVerdict
+nothing-of-reads s r =
+    let h = r .arcs .header in
+    then-passed
+    (header-right s (h .long) (h .counted) (h .first-version) (λ z. omega (arith, h .some-vertex)) (h .few-vertices) (h .few-arcs) (h .few-reads) (h .low-opening))
+    refl
+    (then-passed (all-right (vertexFault s) (vertexAt s) (vertexCount s) 0 (λ k a b. vertex-passes k (omega arith))) refl
+    (then-passed (all-right (λ a. arcFault s (arcAt s a)) (arcAt s) (arcCount s) 0 (λ k a b. arc-passes s (r .arcs) k (omega arith))) refl
+    (reads-pass s (readCount s) (firstReadAt s) (r .reads))))
+  where
+    vertex-passes : (v : ℕ) → v < vertexCount s → vertexFault s v ≡ 0
+    vertex-passes v h = let x = r .vertices v h in sym (vertex-right s v (x .whole) (x .a-flag) (x .low-demand))
+
+-- Document 01, the table's rows 1 to 7, "Given exactly when": nothing is refused exactly where the form reads.
+pub number-zero-iff-reads : (s : List ℕ) → (graphVerdict s .number ≡ 0) ↔ Reads s
+number-zero-iff-reads s = (reads-of-zero s, λ r. sym (ap (λ (v : Verdict). v .number) (nothing-of-reads s r)))
+
+-- "Each answer holds number and place; both are 0 where nothing is refused."
+pub place-zero : (s : List ℕ) → graphVerdict s .number ≡ 0 → graphVerdict s .place ≡ 0
+place-zero s e = sym (ap (λ (v : Verdict). v .place) (nothing-of-reads s (reads-of-zero s e)))
+
+-- "Show that any two results allowed by a promise are equal."
+pub determined : (s : List ℕ) (r t : Verdict) → r ≡ graphVerdict s → t ≡ graphVerdict s → r ≡ t
+determined s r t p q = p ∙ sym q

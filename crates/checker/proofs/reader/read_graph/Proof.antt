@@ -1,0 +1,50 @@
+-- `checker::reader::read_graph` meets its contract: header, vertices, arcs and reads, the first refusal deciding.
+use native.Mathlib.Omega.{arith}
+use mathlib.Core.Path.{sym, ap, _∙_}
+use Rattle.checker.specs.declared.Verdict.{Verdict}
+use Rattle.checker.specs.GraphFaults.{graphVerdict}
+use Rattle.checker.proofs.RightLaws.{header-holds}
+use Rattle.checker.proofs.ThenLaws.{then-refused, then-passed, counted}
+use borrow.Author.Needs.{needs}
+use Rattle.checker.proofs.reader.read_graph.Statement.{statement}
+use Rattle.checker.proofs.reader.read_graph.Tie as tie
+
+header-verdict-requires : tie.Need-header-verdict-requires
+header-verdict-requires c κs = search needs
+
+returns : tie.Need-returns
+unfolding graphVerdict
+returns c = then-refused _ (c .before .before .header-verdict .ensures) (search needs)
+
+shared-slice-read-wide : tie.Need-shared-slice-read-wide
+shared-slice-read-wide c = omega (arith, header-holds _ (ap (λ (v : Verdict). v .number) (sym (c .before .before .before .header-verdict .ensures)) ∙ c .before .if1 .left) .long)
+
+wide-requires : tie.Need-wide-requires
+wide-requires c κs = search needs
+
+vertices-verdict-requires : tie.Need-vertices-verdict-requires
+vertices-verdict-requires c κs = search needs
+
+returns-2 : tie.Need-returns-2
+unfolding graphVerdict
+returns-2 c = then-passed (c .before .before .before .before .before .before .before .header-verdict .ensures) (search needs) (then-refused _ (counted _ _ (c .before .before .vertices-verdict .ensures) (c .before .before .before .wide .ensures .0)) (search needs))
+
+arcs-then-reads-requires : tie.Need-arcs-then-reads-requires
+arcs-then-reads-requires c κs = (header-holds _ (ap (λ (v : Verdict). v .number) (sym (c .before .before .before .before .before .before .before .header-verdict .ensures)) ∙ c .before .before .before .before .before .if1 .left), (search needs))
+
+returns-3 : tie.Need-returns-3
+unfolding graphVerdict
+returns-3 c = then-passed (c .before .before .before .before .before .before .before .before .header-verdict .ensures) (search needs) (then-passed (counted _ _ (c .before .before .before .vertices-verdict .ensures) (c .before .before .before .before .wide .ensures .0)) (search needs) (c .arcs-then-reads .ensures))
+
+pub read-graph-spec : {M : Type 1} → statement M
+read-graph-spec =
+    tie.close
+    (tie.spec
+    header-verdict-requires
+    returns
+    shared-slice-read-wide
+    wide-requires
+    vertices-verdict-requires
+    returns-2
+    arcs-then-reads-requires
+    returns-3)
