@@ -8,3 +8,8 @@ pub mod ReadLaws
 pub mod RightLaws
 pub mod ThenLaws
 pub mod GraphReads
+pub mod TableLaws
+pub mod OverlapLaws
+pub mod TableRows
+pub mod DropLaws
+pub mod LongestLaws

@@ -8,3 +8,4 @@ pub mod AnswerFaults
 pub mod Check
 pub mod GraphReads
 pub mod ArcTable
+pub mod ReadTable

@@ -86,3 +86,4 @@ impl Graph {
         }
     }
 }
+mod reads;
