@@ -71,10 +71,10 @@ moved-start rows lens count t =
     }
 
 -- two lists that agree from a place on agree from the next on, and at that place
-later : {A : Type 0} (xs ys : List A) (i : ℕ) → drop i xs ≡ drop i ys → drop (i + 1) xs ≡ drop (i + 1) ys
+pub later : {A : Type 0} (xs ys : List A) (i : ℕ) → drop i xs ≡ drop i ys → drop (i + 1) xs ≡ drop (i + 1) ys
 later xs ys i e = sym (drop-drop 1 i xs) ∙ (ap (drop 1) e ∙ drop-drop 1 i ys)
 
-there : {A : Type 0} (d : A) (xs ys : List A) (i : ℕ) → drop i xs ≡ drop i ys → getD xs i d ≡ getD ys i d
+pub there : {A : Type 0} (d : A) (xs ys : List A) (i : ℕ) → drop i xs ≡ drop i ys → getD xs i d ≡ getD ys i d
 there d xs ys i e =
     ap (λ (k : ℕ). getD xs k d) (sym (add-zero i))
     ∙ (sym (getD-drop i xs 0 d) ∙ (ap (λ (l : List _). getD l 0 d) e ∙ (getD-drop i ys 0 d ∙ ap (λ (k : ℕ). getD ys k d) (add-zero i))))

@@ -13,3 +13,6 @@ pub mod OverlapLaws
 pub mod TableRows
 pub mod DropLaws
 pub mod LongestLaws
+pub mod JoinLaws
+pub mod JoinedRead
+pub mod PrepareLaws

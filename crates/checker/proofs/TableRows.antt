@@ -65,11 +65,12 @@ module _ (rows : List (List ℕ)) (lens : List ℕ) (count : ℕ) (t : TableHold
   pub table-from : (j : ℕ) → j < count → drop j (rowsOf rows lens count) ≡ rowAt rows lens j ∷ drop (j + 1) (rowsOf rows lens count)
   table-from j l = rows-from rows lens (t .tall) (t .sized) count j (t .counted) l
 
+  row-wide : (i : ℕ) → i < count → length (getD rows i []) ≡ 64
+  row-wide i l = at-all (λ (r : List ℕ). length r ≡ 64) [] rows (t .wide) i (omega (arith, t .tall, t .counted))
+
   row-long : (i : ℕ) → i < count → length (rowAt rows lens i) ≡ getD lens i 0
   unfolding rowAt
-  row-long i l =
-      let wide : length (getD rows i []) ≡ 64 = at-all (λ (r : List ℕ). length r ≡ 64) [] rows (t .wide) i (omega (arith, t .tall, t .counted)) in
-      omega (arith, length-take (getD lens i 0) (getD rows i []), t .fit i l)
+  row-long i l = omega (arith, row-wide i l, length-take (getD lens i 0) (getD rows i []), t .fit i l)
 
   -- each of the first rows holds a read
   pub table-row : (i : ℕ) → i < count → RowHolds rows lens i
@@ -77,6 +78,7 @@ module _ (rows : List (List ℕ)) (lens : List ℕ) (count : ℕ) (t : TableHold
       record {
         inside = omega (arith, t .counted);
         fit = t .fit i l;
+        wide = row-wide i l;
         long = row-long i l;
         read = subst ReadHolds (table-get i l) (at-all ReadHolds [] (rowsOf rows lens count) (t .reads) i (omega (arith, table-length)));
       }

@@ -1,7 +1,7 @@
 -- Document 01, "The reads of the form fill a table of reads, a row each, lengths beside it": what the table stands for, and what holds of one.
 use Prim.Native.Nat.{ℕ, zero, suc, _+_, _≤_, _<_}
 use mathlib.Core.Path.{_≡_}
-use mathlib.Core.List.{List, [], _∷_}
+use mathlib.Core.List.{List, [], _∷_, _++_}
 use mathlib.Core.Bool.{Bool, true, false, cond, _&&_, _||_}
 use lib.Dec.{ltb, eqb}
 use lib.ListN.{length, getD, take, drop}
@@ -41,6 +41,7 @@ pub record ReadHolds (r : List ℕ) : Type 0 where
 pub record RowHolds (rows : List (List ℕ)) (lens : List ℕ) (i : ℕ) : Type 0 where
   pub inside : i < 16
   pub fit : getD lens i 0 ≤ 64
+  pub wide : length (getD rows i []) ≡ 64
   pub long : length (rowAt rows lens i) ≡ getD lens i 0
   pub read : ReadHolds (rowAt rows lens i)
 
@@ -94,6 +95,10 @@ withFrom rows lens count i j best = longestWith i (rowAt rows lens i) j (drop j 
 -- the longest with a read from row i on, and best
 unfoldable pub allFrom : List (List ℕ) → List ℕ → ℕ → ℕ → Meeting → Meeting
 allFrom rows lens count i best = longestFrom i (rowsOf rows lens count) (drop i (rowsOf rows lens count)) best
+
+-- the read in row i, and behind it the read in row j without its first n numbers
+unfoldable pub joinOf : List (List ℕ) → List ℕ → ℕ → ℕ → ℕ → List ℕ
+joinOf rows lens i j n = rowAt rows lens i ++ drop n (rowAt rows lens j)
 
 -- p is where v stands in the rising list r, or would stand
 pub record Place (r : List ℕ) (v p : ℕ) : Type 0 where

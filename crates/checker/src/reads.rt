@@ -1,12 +1,12 @@
 // Preparing the reads: a table of reads, a row each, lengths beside it. What a part of another is dropped; then the longest overlap is joined, while there is one.
 ghost use mathlib.Core.Path.{_≡_};
-ghost use mathlib.Core.List.{List, [], _∷_, _++_};
+ghost use mathlib.Core.List.{List, []};
 ghost use mathlib.Core.Bool.{Bool, true, false, cond};
 ghost use Prim.Native.Nat.{ℕ, suc, _+_, _-_, _<_, _≤_};
-ghost use lib.ListN.{length, getD, take, drop};
+ghost use lib.ListN.{length, getD, take, set};
 ghost use Rattle.mathematics.specs.Lists.{holds};
-ghost use Rattle.mathematics.specs.Prepare.{dropParts, overlap as overlapOf, longest as longestOf, joinAt, prepare};
-ghost use Rattle.checker.specs.ReadTable.{rowAt, rowsOf, runs, Leaves, heldFrom, longerAt, longerFrom, gone, Marks, meeting, nextAt, withFrom, RowHolds, TableHolds, Place};
+ghost use Rattle.mathematics.specs.Prepare.{dropParts, overlap as overlapOf, longest as longestOf, without, joinAt, prepare};
+ghost use Rattle.checker.specs.ReadTable.{rowAt, rowsOf, runs, Leaves, heldFrom, longerAt, longerFrom, gone, Marks, meeting, nextAt, withFrom, joinOf, ReadHolds, RowHolds, TableHolds, Place};
 
 // A pair of reads, by their rows, and the length of their overlap.
 pub struct Meeting {
@@ -273,4 +273,102 @@ fn longest(rows: &[[u8; 64]; 16], lens: &[usize; 16], count: usize) -> Meeting
         i += 1;
     }
     found
+}
+
+// The read of row i, and behind it the read of row j without its first n numbers.
+fn joined(rows: &[[u8; 64]; 16], lens: &[usize; 16], i: usize, j: usize, n: usize) -> [u8; 64]
+    requires read_i { ⌜ RowHolds (now rows) (now lens) i ⌝ }
+    requires read_j { ⌜ RowHolds (now rows) (now lens) j ⌝ }
+    requires room { ⌜ (n ≤ getD (now lens) j 0) × (getD (now lens) i 0 + getD (now lens) j 0 ≤ 64 + n) ⌝ }
+    ensures wide { λ r. ⌜ length r ≡ 64 ⌝ }
+    ensures read { λ r. ⌜ take (getD (now (lens .entry)) i 0 + getD (now (lens .entry)) j 0 - n) r ≡ joinOf (now (rows .entry)) (now (lens .entry)) i j n ⌝ }
+{
+    let m = lens[j];
+    let mut row = rows[i];
+    let mut at = lens[i];
+    let mut k = n;
+    while k < m {
+        row[at] = rows[j][k];
+        at += 1;
+        k += 1;
+    }
+    row
+}
+
+// Moves the rows behind row gap up by one.
+fn close_gap(rows: &mut [[u8; 64]; 16], lens: &mut [usize; 16], count: usize, gap: usize) -> usize
+    requires table { ⌜ TableHolds (now rows) (now lens) count ⌝ }
+    requires inside { ⌜ gap < count ⌝ }
+    ensures left { λ r. ⌜ Leaves (now (rows .exit)) (now (lens .exit)) r (without gap (rowsOf (now (rows .entry)) (now (lens .entry)) count)) ⌝ }
+    ensures fewer { λ r. ⌜ r + 1 ≡ count ⌝ }
+{
+    let mut k = gap;
+    while k < count - 1 {
+        let next = k + 1;
+        let row = rows[next];
+        rows[k] = row;
+        lens[k] = lens[next];
+        k = next;
+    }
+    count - 1
+}
+
+// Puts a read of the given length into row low, and takes row high out.
+fn put_row(
+    rows: &mut [[u8; 64]; 16],
+    lens: &mut [usize; 16],
+    count: usize,
+    low: usize,
+    high: usize,
+    row: [u8; 64],
+    size: usize,
+) -> usize
+    requires table { ⌜ TableHolds (now rows) (now lens) count ⌝ }
+    requires inside { ⌜ (low < count) × (high < count) ⌝ }
+    requires read { ⌜ (length row ≡ 64) × (size ≤ 64) × ReadHolds (take size row) ⌝ }
+    ensures left { λ r. ⌜ Leaves (now (rows .exit)) (now (lens .exit)) r (without high (set (rowsOf (now (rows .entry)) (now (lens .entry)) count) low (take size row))) ⌝ }
+    ensures fewer { λ r. ⌜ r + 1 ≡ count ⌝ }
+{
+    rows[low] = row;
+    lens[low] = size;
+    close_gap(rows, lens, count, high)
+}
+
+// Replaces the pair with the longest overlap by the joined read, in the lower of the two rows.
+fn join_at(rows: &mut [[u8; 64]; 16], lens: &mut [usize; 16], count: usize, m: Meeting) -> usize
+    requires table { ⌜ TableHolds (now rows) (now lens) count ⌝ }
+    requires longest { ⌜ meeting m ≡ longestOf (rowsOf (now rows) (now lens) count) ⌝ }
+    requires some { ⌜ 1 ≤ m .length ⌝ }
+    ensures left { λ r. ⌜ Leaves (now (rows .exit)) (now (lens .exit)) r (joinAt (meeting m) (rowsOf (now (rows .entry)) (now (lens .entry)) count)) ⌝ }
+    ensures fewer { λ r. ⌜ r + 1 ≡ count ⌝ }
+{
+    let i = m.i;
+    let j = m.j;
+    let n = m.length;
+    let row = joined(rows, lens, i, j, n);
+    let size = lens[i] + lens[j] - n;
+    if i < j {
+        put_row(rows, lens, count, i, j, row, size)
+    } else {
+        put_row(rows, lens, count, j, i, row, size)
+    }
+}
+
+// Prepares the reads: drops what is a part of another, then joins the longest overlap while there is one. Gives how many reads remain.
+pub fn prepare_reads(rows: &mut [[u8; 64]; 16], lens: &mut [usize; 16], count: usize) -> usize
+    requires { ⌜ TableHolds (now rows) (now lens) count ⌝ }
+    ensures { λ r. ⌜ Leaves (now (rows .exit)) (now (lens .exit)) r (prepare (rowsOf (now (rows .entry)) (now (lens .entry)) count)) ⌝ }
+{
+    if count < 2 {
+        return count;
+    }
+    let mut n = drop_parts(rows, lens, count);
+    while 1 < n {
+        let m = longest(rows, lens, n);
+        if m.length == 0 {
+            return n;
+        }
+        n = join_at(rows, lens, n, m);
+    }
+    n
 }

@@ -1,60 +1,233 @@
--- Cases D, L and X of document 01, "Numbers to hold against the definitions", at the level of graphs and covers.
+-- Cases D, L and X of document 01, "Numbers to hold against the definitions", at the level of graphs and covers: that the covers named there are covers, at
+-- those prices, and that no cover is cheaper; and that the wrong turns document 01 names lead to no cover.
 use Prim.Native.Nat.{ℕ, zero, suc, _+_, _≤_}
 use mathlib.Core.Path.{_≡_, refl}
-use mathlib.Core.List.{List, [], _∷_}
+use mathlib.Core.List.{List, [], _∷_, map, head-eq-of-cons-eq, tail-eq-of-cons-eq}
 use mathlib.Core.Bool.{Bool, true, false}
-use lib.IntN.{ℤ, pos, negℤ}
+use mathlib.Core.Logic.{_≢_}
+use native.Mathlib.Omega.{arith}
+use lib.Dec.{T}
+use lib.IntN.{ℤ, pos, negsuc}
 use Rattle.mathematics.specs.Price.{whole}
-use Rattle.mathematics.specs.Graph.{Vertex, Arc, Graph}
-use Rattle.mathematics.specs.Cover.{Weighted, price}
+use Rattle.mathematics.specs.Lists.{holds}
+use Rattle.mathematics.specs.Graph.{Vertex, Arc, Graph, WellFormed}
+use Rattle.mathematics.specs.Cover.{Weighted, IsCover, price, IsLowest}
 use Rattle.mathematics.specs.Prepare.{prepare, overlap, longest, joinAt}
-use Rattle.mathematics.specs.Bound.{Marks, bound}
+use Rattle.mathematics.specs.Bound.{Marks, SlacksHold, bound}
+use Rattle.mathematics.proofs.PriceKinds.{whole-ordered}
+use Rattle.mathematics.proofs.Lowest.{Shows, shown-is-lowest}
 
-vertex : Bool → Bool → ℕ → Vertex
-vertex s e d = record { start = s; end = e; demand = d }
+abbrev vertex : Bool → Bool → Vertex
+vertex s e = record { start = s; end = e; demand = 1 }
 
-edge : ℕ → ℕ → ℕ → ℕ → Arc ℤ
-edge u v c d = record { tail = u; head = v; cost = pos c; demand = d }
+abbrev edge : ℕ → ℕ → ℕ → Arc ℤ
+edge u v c = record { tail = u; head = v; cost = pos c; demand = 0 }
 
-D : Graph ℤ
+abbrev once : List ℕ → Weighted
+once p = record { weight = 1; path = p }
+
+-- the marks listed, vertex 0 first; nothing behind them
+abbrev markAt : List ℤ → ℕ → ℤ
+markAt [] v = pos 0
+markAt (x ∷ xs) zero = x
+markAt (x ∷ xs) (suc v) = markAt xs v
+
+-- lists that differ at their first, second number
+differ-first : (x y : ℕ) (p q : List ℕ) → x ≢ y → x ∷ p ≢ y ∷ q
+differ-first x y p q d e = d (head-eq-of-cons-eq e)
+
+differ-second : (x y z : ℕ) (p q : List ℕ) → y ≢ z → x ∷ y ∷ p ≢ x ∷ z ∷ q
+differ-second x y z p q d e = differ-first y z p q d (tail-eq-of-cons-eq e)
+
+ends-differ : (a b c d : ℕ) → (a ≡ c → b ≡ d → ⊥) → _≢_ {A = ℕ × ℕ} (a, b) (c, d)
+ends-differ a b c d h e = h (λ i. e i .0) (λ i. e i .1)
+
+-- ---- D
+
+-- "4 vertices, demands 1, start 0, end 3; arcs 0-1 cost 2, 0-2 cost 3, 1-3 cost 4, 2-3 cost 5, demands 0; opening 10; no reads"
+abbrev pub D : Graph ℤ
 D =
     record {
       opening = pos 10;
-      vertices = vertex true false 1 ∷ vertex false false 1 ∷ vertex false false 1 ∷ vertex false true 1 ∷ [];
-      arcs = edge 0 1 2 0 ∷ edge 0 2 3 0 ∷ edge 1 3 4 0 ∷ edge 2 3 5 0 ∷ [];
+      vertices = vertex true false ∷ vertex false false ∷ vertex false false ∷ vertex false true ∷ [];
+      arcs = edge 0 1 2 ∷ edge 0 2 3 ∷ edge 1 3 4 ∷ edge 2 3 5 ∷ [];
       reads = [];
     }
 
-D-cover : List Weighted
-D-cover = record { weight = 1; path = 0 ∷ 1 ∷ 3 ∷ [] } ∷ record { weight = 1; path = 0 ∷ 2 ∷ 3 ∷ [] } ∷ []
+abbrev pub D-cover : List Weighted
+D-cover = once (0 ∷ 1 ∷ 3 ∷ []) ∷ once (0 ∷ 2 ∷ 3 ∷ []) ∷ []
 
-D-in : ℕ → ℤ
-D-in zero = pos 10
-D-in (suc zero) = pos 12
-D-in (suc (suc zero)) = pos 13
-D-in (suc (suc (suc n))) = pos 0
+-- "in/out marks 10/10, 12/-4, 13/-5, 0/0"
+abbrev pub D-marks : Marks ℤ
+D-marks =
+    record {
+      into = markAt (pos 10 ∷ pos 12 ∷ pos 13 ∷ pos 0 ∷ []);
+      out = markAt (pos 10 ∷ negsuc 3 ∷ negsuc 4 ∷ pos 0 ∷ []);
+    }
 
-D-out : ℕ → ℤ
-D-out zero = pos 10
-D-out (suc zero) = negℤ (pos 4)
-D-out (suc (suc zero)) = negℤ (pos 5)
-D-out (suc (suc (suc n))) = pos 0
+D-formed : WellFormed D
+D-formed =
+    record {
+      rises = (omega arith, (omega arith, (omega arith, (omega arith, tt))));
+      once = (
+        (ends-differ 0 1 0 2 (λ h k. omega arith), (ends-differ 0 1 1 3 (λ h k. omega arith), (ends-differ 0 1 2 3 (λ h k. omega arith), tt))),
+        (
+          (ends-differ 0 2 1 3 (λ h k. omega arith), (ends-differ 0 2 2 3 (λ h k. omega arith), tt)),
+          ((ends-differ 1 3 2 3 (λ h k. omega arith), tt), (tt, tt)),
+        ),
+      );
+      reads-linked = tt;
+    }
 
-D-marks : Marks ℤ
-D-marks = record { into = D-in; out = D-out }
+D-covers : IsCover D D-cover
+D-covers =
+    record {
+      are-paths = (tt, (tt, tt));
+      weights = (omega arith, (omega arith, tt));
+      distinct = ((differ-second 0 1 2 (3 ∷ []) (3 ∷ []) (λ e. omega arith), tt), (tt, tt));
+      demands-met = (omega arith, (omega arith, (omega arith, (omega arith, (omega arith, (omega arith, (omega arith, (omega arith, tt))))))));
+      reads-met = tt;
+    }
 
-D-price : price whole D D-cover ≡ pos 34
-unfolding D edge vertex D-cover
+-- "the bound is 16+18 = 34"
+D-shown : Shows whole D D-marks D-cover
+unfolding bound prepare
+D-shown = (record { vertices-hold = (tt, (tt, (tt, (tt, tt)))); arcs-hold = (tt, (tt, (tt, (tt, tt)))) }, refl)
+
+-- "D: price 34"
+pub D-price : price whole D D-cover ≡ pos 34
 D-price = refl
 
-D-bound : bound whole D D-marks ≡ pos 34
-unfolding D edge vertex D-marks D-in D-out bound prepare
-D-bound = refl
+pub D-lowest : IsLowest whole D D-cover
+D-lowest = shown-is-lowest whole whole-ordered D D-formed D-marks D-cover D-covers D-shown
 
-L-prepared : prepare ((0 ∷ 1 ∷ 2 ∷ []) ∷ (2 ∷ 4 ∷ []) ∷ (1 ∷ 2 ∷ 3 ∷ []) ∷ []) ≡ (0 ∷ 1 ∷ 2 ∷ 3 ∷ []) ∷ (2 ∷ 4 ∷ []) ∷ []
+-- one path leaves vertex 2 unmet
+pub D-one-path-is-none : IsCover D (once (0 ∷ 1 ∷ 3 ∷ []) ∷ []) → ⊥
+D-one-path-is-none c = let unmet : 1 ≤ 0 = c .demands-met .1 .1 .0 in omega arith
+
+-- ---- L and X share their shape: two starts, two ends, all arcs at cost 1
+
+-- "L: starts 0 and 2, ends 3 and 4, arcs 0-1, 1-2, 2-3, 2-4 at cost 1, vertex demands 1, arc demands 0, opening 10, reads 0 1 2, 2 4 and 1 2 3"
+abbrev pub L : Graph ℤ
+L =
+    record {
+      opening = pos 10;
+      vertices = vertex true false ∷ vertex false false ∷ vertex true false ∷ vertex false true ∷ vertex false true ∷ [];
+      arcs = edge 0 1 1 ∷ edge 1 2 1 ∷ edge 2 3 1 ∷ edge 2 4 1 ∷ [];
+      reads = (0 ∷ 1 ∷ 2 ∷ []) ∷ (2 ∷ 4 ∷ []) ∷ (1 ∷ 2 ∷ 3 ∷ []) ∷ [];
+    }
+
+abbrev pub L-cover : List Weighted
+L-cover = once (0 ∷ 1 ∷ 2 ∷ 3 ∷ []) ∷ once (2 ∷ 4 ∷ []) ∷ []
+
+L-marks : Marks ℤ
+L-marks =
+    record {
+      into = markAt (pos 10 ∷ pos 10 ∷ pos 10 ∷ pos 0 ∷ pos 0 ∷ []);
+      out = markAt (pos 10 ∷ pos 9 ∷ pos 0 ∷ pos 0 ∷ pos 0 ∷ []);
+    }
+
+L-formed : WellFormed L
+L-formed =
+    record {
+      rises = (omega arith, (omega arith, (omega arith, (omega arith, tt))));
+      once = (
+        (ends-differ 0 1 1 2 (λ h k. omega arith), (ends-differ 0 1 2 3 (λ h k. omega arith), (ends-differ 0 1 2 4 (λ h k. omega arith), tt))),
+        (
+          (ends-differ 1 2 2 3 (λ h k. omega arith), (ends-differ 1 2 2 4 (λ h k. omega arith), tt)),
+          ((ends-differ 2 3 2 4 (λ h k. omega arith), tt), (tt, tt)),
+        ),
+      );
+      reads-linked = ((omega arith, tt), ((omega arith, tt), ((omega arith, tt), tt)));
+    }
+
+L-covers : IsCover L L-cover
+L-covers =
+    record {
+      are-paths = (tt, (tt, tt));
+      weights = (omega arith, (omega arith, tt));
+      distinct = ((differ-first 0 2 (1 ∷ 2 ∷ 3 ∷ []) (4 ∷ []) (λ e. omega arith), tt), (tt, tt));
+      demands-met = (
+        omega arith,
+        (omega arith, (omega arith, (omega arith, (omega arith, (omega arith, (omega arith, (omega arith, (omega arith, tt)))))))),
+      );
+      reads-met = (tt, (tt, (tt, tt)));
+    }
+
+L-shown : Shows whole L L-marks L-cover
+unfolding L-marks bound prepare longest joinAt overlap
+L-shown = (record { vertices-hold = (tt, (tt, (tt, (tt, (tt, tt))))); arcs-hold = (tt, (tt, (tt, (tt, tt)))) }, refl)
+
+-- "price 24"
+pub L-price : price whole L L-cover ≡ pos 24
+L-price = refl
+
+pub L-lowest : IsLowest whole L L-cover
+L-lowest = shown-is-lowest whole whole-ordered L L-formed L-marks L-cover L-covers L-shown
+
+-- "Merging reads in file order. In L, joining 0 1 2 with 2 4 first leads to 26." The longest overlap is joined first instead.
+pub L-prepared : prepare (L .reads) ≡ (0 ∷ 1 ∷ 2 ∷ 3 ∷ []) ∷ (2 ∷ 4 ∷ []) ∷ []
 unfolding prepare longest joinAt overlap
 L-prepared = refl
 
-X-prepared : prepare ((0 ∷ 2 ∷ 3 ∷ []) ∷ (1 ∷ 2 ∷ 4 ∷ []) ∷ (0 ∷ 2 ∷ 3 ∷ []) ∷ (2 ∷ 3 ∷ []) ∷ []) ≡ (0 ∷ 2 ∷ 3 ∷ []) ∷ (1 ∷ 2 ∷ 4 ∷ []) ∷ []
-unfolding prepare longest joinAt overlap
-X-prepared = refl
+-- "X: starts 0 and 1, ends 3 and 4, arcs 0-2, 1-2, 2-3, 2-4 at cost 1, demands as in L, opening 10, reads 0 2 3 and 1 2 4"
+abbrev pub X : Graph ℤ
+X =
+    record {
+      opening = pos 10;
+      vertices = vertex true false ∷ vertex true false ∷ vertex false false ∷ vertex false true ∷ vertex false true ∷ [];
+      arcs = edge 0 2 1 ∷ edge 1 2 1 ∷ edge 2 3 1 ∷ edge 2 4 1 ∷ [];
+      reads = (0 ∷ 2 ∷ 3 ∷ []) ∷ (1 ∷ 2 ∷ 4 ∷ []) ∷ [];
+    }
+
+abbrev pub X-cover : List Weighted
+X-cover = once (0 ∷ 2 ∷ 3 ∷ []) ∷ once (1 ∷ 2 ∷ 4 ∷ []) ∷ []
+
+X-marks : Marks ℤ
+X-marks =
+    record {
+      into = markAt (pos 10 ∷ pos 10 ∷ pos 10 ∷ pos 0 ∷ pos 0 ∷ []);
+      out = markAt (pos 10 ∷ pos 10 ∷ pos 0 ∷ pos 0 ∷ pos 0 ∷ []);
+    }
+
+X-formed : WellFormed X
+X-formed =
+    record {
+      rises = (omega arith, (omega arith, (omega arith, (omega arith, tt))));
+      once = (
+        (ends-differ 0 2 1 2 (λ h k. omega arith), (ends-differ 0 2 2 3 (λ h k. omega arith), (ends-differ 0 2 2 4 (λ h k. omega arith), tt))),
+        (
+          (ends-differ 1 2 2 3 (λ h k. omega arith), (ends-differ 1 2 2 4 (λ h k. omega arith), tt)),
+          ((ends-differ 2 3 2 4 (λ h k. omega arith), tt), (tt, tt)),
+        ),
+      );
+      reads-linked = ((omega arith, tt), ((omega arith, tt), tt));
+    }
+
+X-covers : IsCover X X-cover
+X-covers =
+    record {
+      are-paths = (tt, (tt, tt));
+      weights = (omega arith, (omega arith, tt));
+      distinct = ((differ-first 0 1 (2 ∷ 3 ∷ []) (2 ∷ 4 ∷ []) (λ e. omega arith), tt), (tt, tt));
+      demands-met = (
+        omega arith,
+        (omega arith, (omega arith, (omega arith, (omega arith, (omega arith, (omega arith, (omega arith, (omega arith, tt)))))))),
+      );
+      reads-met = (tt, (tt, tt));
+    }
+
+X-shown : Shows whole X X-marks X-cover
+unfolding X-marks bound prepare longest joinAt overlap
+X-shown = (record { vertices-hold = (tt, (tt, (tt, (tt, (tt, tt))))); arcs-hold = (tt, (tt, (tt, (tt, tt)))) }, refl)
+
+-- "price 24, those two paths"
+pub X-price : price whole X X-cover ≡ pos 24
+X-price = refl
+
+pub X-lowest : IsLowest whole X X-cover
+X-lowest = shown-is-lowest whole whole-ordered X X-formed X-marks X-cover X-covers X-shown
+
+-- "Meeting a read by visiting its vertices with others between": 0 1 2 3 does not hold the read 0 2 3
+pub visiting-is-not-holding : holds (0 ∷ 1 ∷ 2 ∷ 3 ∷ []) (0 ∷ 2 ∷ 3 ∷ []) ≡ false
+visiting-is-not-holding = refl

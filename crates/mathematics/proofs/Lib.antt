@@ -4,7 +4,6 @@ pub mod Loads
 pub mod Sweep
 pub mod Algebra
 pub mod PriceKinds
-pub mod Examples
 pub mod Network
 pub mod Tree
 pub mod Shift
@@ -40,3 +39,4 @@ pub mod Lying
 pub mod Duality
 pub mod Lowest
 pub mod Limits
+pub mod Examples
