@@ -24,10 +24,10 @@ use Rattle.checker.specs.GraphOf.{arcOf, arcsOf}
 use Rattle.checker.specs.GraphReads.{ArcsRight}
 use Rattle.checker.specs.ArcTable.{numberFrom, arcNumber, tailsBelow, AsCounted, ArcTable}
 
-abbrev tailOf : List ℕ → ℕ → ℕ
+abbrev pub tailOf : List ℕ → ℕ → ℕ
 tailOf s a = arcTail s (arcAt s a)
 
-abbrev headOf : List ℕ → ℕ → ℕ
+abbrev pub headOf : List ℕ → ℕ → ℕ
 headOf s a = arcHead s (arcAt s a)
 
 -- a row of numbers that does not fall: of count of them from number i on, the first below are under u, and the others are not
@@ -134,11 +134,11 @@ module _ (s : List ℕ) (u v : ℕ) where
   unfoldable pub foundFrom : ℕ → Found
   foundFrom a = numberFrom (tabulate (arcOf s) (arcCount s - a) a) u v a
 
-  next : (k a : ℕ) → joins (arcOf s a) u v ≡ false → numberFrom (tabulate (arcOf s) (suc k) a) u v a ≡ numberFrom (tabulate (arcOf s) k (suc a)) u v (suc a)
+  pub next : (k a : ℕ) → joins (arcOf s a) u v ≡ false → numberFrom (tabulate (arcOf s) (suc k) a) u v a ≡ numberFrom (tabulate (arcOf s) k (suc a)) u v (suc a)
   unfolding numberFrom
   next k a e = simp e
 
-  here : (k a : ℕ) → joins (arcOf s a) u v ≡ true → numberFrom (tabulate (arcOf s) (suc k) a) u v a ≡ At a
+  pub here : (k a : ℕ) → joins (arcOf s a) u v ≡ true → numberFrom (tabulate (arcOf s) (suc k) a) u v a ≡ At a
   unfolding numberFrom
   here k a e = simp e
 

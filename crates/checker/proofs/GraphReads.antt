@@ -4,15 +4,16 @@ use Prim.Native.Nat.{ℕ, zero, suc, _+_, _-_, _<_, _≤_, zero-le}
 use native.Mathlib.Omega.{arith}
 use mathlib.Core.Path.{_≡_, refl, sym, ap, ap₂, _∙_}
 use mathlib.Core.List.{List, [], _∷_, map}
-use mathlib.Core.Bool.{Bool, true, false, cond, _&&_, _||_}
+use mathlib.Core.Bool.{Bool, true, false, cond, not, _&&_, _||_}
 use mathlib.Core.Logic.{_⊎_, inl, inr, ⊎-elim, _↔_}
-use lib.Dec.{T, ltb, eqb}
+use lib.Dec.{ltb, leb, eqb, lit≤}
 use lib.ListN.{length}
 use borrow.Author.Tests.{ltb-false, lt-ltb, le-ltb, eq-eqb, ne-eqb, eqb-true, eqb-false}
 use Rattle.mathematics.specs.Lists.{All, Distinct}
 use Rattle.mathematics.specs.Graph.{linked}
 use Rattle.checker.specs.declared.Verdict.{Verdict}
-use Rattle.checker.specs.GraphForm.{vertexAt, vertexCount, arcCount, arcAt, readCount, firstReadAt, readVertices, readEnd}
+use Rattle.checker.specs.Limits.{maxVertices, maxArcs, maxReads, maxOpening, maxCost, maxDemand, minReadLength, maxReadLength}
+use Rattle.checker.specs.GraphForm.{headerLength, lengthWord, version, vertexCount, arcCount, readCount, openingPrice, vertexLength, vertexAt, flags, vertexDemand, arcLength, arcAt, arcTail, arcHead, arcCost, arcDemand, firstReadAt, readLength, readVertices, readEnd}
 use Rattle.checker.specs.GraphOf.{arcsOf, graphOf}
 use Rattle.checker.specs.GraphFaults.{refusal, nothingRefused, then, headerVerdict, firstFault, vertexFault, follows, ascends, arcFault, verticesVerdict, arcsVerdict, allBelow, walks, readFault, readsVerdict, graphVerdict}
 use Rattle.checker.specs.GraphReads.{HeaderRight, VertexRight, ArcRight, Before, ReadRight, ReadsRight, ArcsRight, Reads}
@@ -107,6 +108,67 @@ number-zero-iff-reads s = (reads-of-zero s, λ r. sym (ap (λ (v : Verdict). v .
 -- "Each answer holds number and place; both are 0 where nothing is refused."
 pub place-zero : (s : List ℕ) → graphVerdict s .number ≡ 0 → graphVerdict s .place ≡ 0
 place-zero s e = sym (ap (λ (v : Verdict). v .place) (nothing-of-reads s (reads-of-zero s e)))
+
+-- each number that is given is one of 0 to 7
+lower : (t : Bool) (x y : ℕ) → x ≤ 7 → y ≤ 7 → cond t x y ≤ 7
+lower true x y h k = h
+lower false x y h k = k
+
+low : (t : Bool) (x y : Verdict) → x .number ≤ 7 → y .number ≤ 7 → cond t x y .number ≤ 7
+low true x y h k = h
+low false x y h k = k
+
+low-vertex : (s : List ℕ) (v : ℕ) → vertexFault s v ≤ 7
+unfolding vertexFault
+low-vertex s v =
+    lower (ltb (length s) (vertexAt s v + vertexLength)) 5 _ (lit≤ tt)
+    (lower (ltb 3 (flags s v) || ltb maxDemand (vertexDemand s v)) 4 0 (lit≤ tt) (lit≤ tt))
+
+low-arc : (s : List ℕ) (at : ℕ) → arcFault s at ≤ 7
+unfolding arcFault
+low-arc s at =
+    lower (ltb (length s) (at + arcLength)) 5 _ (lit≤ tt)
+    (lower (ltb maxCost (arcCost s at) || ltb maxDemand (arcDemand s at)) 4 _ (lit≤ tt)
+    (lower (ltb (arcTail s at) (arcHead s at) && (ltb (arcHead s at) (vertexCount s) && ascends s at)) 0 6 (lit≤ tt) (lit≤ tt)))
+
+low-read : (s : List ℕ) (at : ℕ) → readFault s at ≤ 7
+unfolding readFault
+low-read s at =
+    lower (leb (length s) at) 5 _ (lit≤ tt)
+    (lower (ltb (readLength s at) minReadLength || ltb maxReadLength (readLength s at)) 7 _ (lit≤ tt)
+    (lower (ltb (length s) (readEnd s at)) 5 _ (lit≤ tt) (lower (walks (vertexCount s) (arcsOf s) (readVertices s at)) 0 7 (lit≤ tt) (lit≤ tt))))
+
+low-header : (s : List ℕ) → headerVerdict s .number ≤ 7
+unfolding headerVerdict
+low-header s =
+    low (ltb (length s) headerLength || not (eqb (lengthWord s) (length s))) (refusal 1 0) _ (lit≤ tt)
+    (low (not (eqb (version s) 1)) (refusal 2 4) _ (lit≤ tt)
+    (low (eqb (vertexCount s) 0 || ltb maxVertices (vertexCount s)) (refusal 3 5) _ (lit≤ tt)
+    (low (ltb maxArcs (arcCount s)) (refusal 3 6) _ (lit≤ tt)
+    (low (ltb maxReads (readCount s)) (refusal 3 8) _ (lit≤ tt)
+    (low (ltb maxOpening (openingPrice s)) (refusal 4 9) nothingRefused (lit≤ tt) (lit≤ tt))))))
+
+low-records : (fault place : ℕ → ℕ) → ((k : ℕ) → fault k ≤ 7) → (n i : ℕ) → firstFault fault place n i .number ≤ 7
+unfolding firstFault
+low-records fault place h zero i = lit≤ tt
+low-records fault place h (suc n) i = low (eqb (fault i) 0) _ _ (low-records fault place h n (suc i)) (h i)
+
+low-reads : (s : List ℕ) (count at : ℕ) → readsVerdict s count at .number ≤ 7
+unfolding readsVerdict
+low-reads s zero at = low (ltb at (length s)) (refusal 5 at) nothingRefused (lit≤ tt) (lit≤ tt)
+low-reads s (suc count) at = low (eqb (readFault s at) 0) _ (refusal (readFault s at) at) (low-reads s count (readEnd s at)) (low-read s at)
+
+low-then : (v after : Verdict) → v .number ≤ 7 → after .number ≤ 7 → then v after .number ≤ 7
+unfolding then
+low-then v after h k = low (eqb (v .number) 0) after v k h
+
+-- Document 01, the table: reading a graph form gives no number but 0 and 1 to 7.
+pub number-to-seven : (s : List ℕ) → graphVerdict s .number ≤ 7
+unfolding graphVerdict
+number-to-seven s =
+    low-then _ _ (low-header s)
+    (low-then _ _ (low-records _ _ (low-vertex s) (vertexCount s) 0)
+    (low-then _ _ (low-records _ _ (λ a. low-arc s (arcAt s a)) (arcCount s) 0) (low-reads s (readCount s) (firstReadAt s))))
 
 -- "Show that any two results allowed by a promise are equal."
 pub determined : (s : List ℕ) (r t : Verdict) → r ≡ graphVerdict s → t ≡ graphVerdict s → r ≡ t

@@ -3,13 +3,19 @@ pub mod Scan
 pub mod HeaderLaws
 pub mod RecordLaws
 pub mod ArcLaws
+-- Laws that the proofs of functions cite.
+pub mod TableLaws
+pub mod OverlapLaws
+pub mod AnswerLaws
+pub mod CertifyLawsSlack
+pub mod CertifyLaws
 pub mod WalkLaws
 pub mod ReadLaws
 pub mod RightLaws
 pub mod ThenLaws
 pub mod GraphReads
-pub mod TableLaws
-pub mod OverlapLaws
+pub mod GraphFacts
+pub mod Lookup
 pub mod TableRows
 pub mod DropLaws
 pub mod LongestLaws

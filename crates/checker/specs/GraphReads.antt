@@ -4,9 +4,10 @@ use mathlib.Core.Path.{_≡_}
 use mathlib.Core.List.{List}
 use mathlib.Core.Logic.{_⊎_}
 use lib.Dec.{T}
+use lib.IntN.{ℤ, pos}
 use lib.ListN.{length}
 use Rattle.mathematics.specs.Lists.{All}
-use Rattle.mathematics.specs.Graph.{linked}
+use Rattle.mathematics.specs.Graph.{Graph, linked}
 use Rattle.checker.specs.Limits.{maxVertices, maxArcs, maxReads, maxOpening, maxCost, maxDemand, minReadLength, maxReadLength}
 use Rattle.checker.specs.GraphForm.{headerLength, lengthWord, version, vertexCount, arcCount, readCount, openingPrice, vertexLength, vertexAt, flags, vertexDemand, arcLength, arcAt, arcTail, arcHead, arcCost, arcDemand, firstReadAt, readLength, readVertices, readEnd}
 use Rattle.checker.specs.GraphOf.{arcsOf}
@@ -65,3 +66,21 @@ pub record Reads (s : List ℕ) : Type 0 where
   pub arcs : ArcsRight s
   pub vertices : (v : ℕ) → v < vertexCount s → VertexRight s v
   pub reads : ReadsRight s (readCount s) (firstReadAt s)
+
+-- a price that is a number from 0 to a limit
+pub record AtMost (limit : ℕ) (x : ℤ) : Type 0 where
+  pub number : ℕ
+  pub is : x ≡ pos number
+  pub low : number ≤ limit
+
+-- "Numbers allowed", of the graph that a form stands for
+pub record Within (G : Graph ℤ) : Type 0 where
+  pub some-vertex : 1 ≤ length (G .vertices)
+  pub few-vertices : length (G .vertices) ≤ maxVertices
+  pub few-arcs : length (G .arcs) ≤ maxArcs
+  pub few-reads : length (G .reads) ≤ maxReads
+  pub low-opening : AtMost maxOpening (G .opening)
+  pub vertex-demands : All (λ v. v .demand ≤ maxDemand) (G .vertices)
+  pub arc-demands : All (λ a. a .demand ≤ maxDemand) (G .arcs)
+  pub arc-costs : All (λ a. AtMost maxCost (a .cost)) (G .arcs)
+  pub short-reads : All (λ r. length r ≤ maxReadLength) (G .reads)

@@ -9,3 +9,5 @@ pub mod Check
 pub mod GraphReads
 pub mod ArcTable
 pub mod ReadTable
+pub mod Certify
+pub mod Empty

@@ -27,6 +27,10 @@ minReadLength = 2
 abbrev pub maxReadLength : ℕ
 maxReadLength = 16
 
+-- "The longest is 3,165 bytes."
+abbrev pub longestGraph : ℕ
+longestGraph = 3165
+
 -- "In an answer: paths 0..464 (64+256+64+64+16), weights totalling at most 320,000,016, marks -2,000,000,000..2,000,000,000."
 abbrev pub maxPaths : ℕ
 maxPaths = 464
@@ -40,3 +44,10 @@ markLimit = 2_000_000_000
 -- "vertex count 1..64"
 abbrev pub maxPathLength : ℕ
 maxPathLength = 64
+
+abbrev pub maxMark : ℕ
+maxMark = 2_000_000_000
+
+-- "Answer: .. The longest is 32,543 bytes."
+abbrev pub longestAnswer : ℕ
+longestAnswer = 32543

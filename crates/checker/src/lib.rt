@@ -1,10 +1,14 @@
 // Reading and checking: the layer that takes every byte string, checks it itself and comes to an end.
 // The definitions that the contracts cite are in specs/, in document 01's words and order.
+pub mod answer;
 pub mod bytes;
+pub mod certify;
 pub mod reader;
 
 ghost use mathlib.Core.Path.{_≡_};
 ghost use Rattle.checker.specs.GraphFaults.{refusal};
+ghost use Rattle.checker.specs.Limits.{maxVertices, maxArcs, maxReads, maxOpening, maxCost, maxDemand, minReadLength, maxReadLength, longestGraph, maxPaths, maxWeight, maxMark, longestAnswer};
+ghost use Rattle.checker.specs.Empty.{emptyHeader, emptyGraph, emptyAnswer};
 
 // What a call answers where an input may be turned down: the refusal's number and its place; both are 0 where nothing is refused.
 pub struct Verdict {
@@ -36,7 +40,9 @@ pub struct Header {
 
 impl Header {
     // The header of the graph with nothing in it.
-    pub fn empty() -> Header {
+    pub fn empty() -> Header
+        ensures { λ r. ⌜ r ≡ emptyHeader ⌝ }
+    {
         Header {
             vertices: 0,
             arcs: 0,
@@ -49,10 +55,11 @@ impl Header {
 // A graph form that reads: its header, and for each vertex the number of its first arc.
 pub struct Graph {
     pub header: Header,
-    pub first: [u16; 65],
+    pub first: [u16; Graph::MAX_VERTICES + 1],
 }
 
 impl Graph {
+    // Document 01, "Numbers allowed".
     pub const MAX_VERTICES: usize = 64;
 
     pub const MAX_ARCS: usize = 256;
@@ -68,7 +75,7 @@ impl Graph {
     pub const MIN_READ: usize = 2;
 
     pub const MAX_READ: usize = 16;
-    // How long the header, a vertex's record and an arc's record are, and the longest form.
+    // Document 01, "The two forms": how long the header, a vertex's record, an arc's record and the longest form are, and where the counts stand.
     pub const HEADER: usize = 13;
 
     pub const VERTEX: usize = 5;
@@ -77,13 +84,48 @@ impl Graph {
 
     pub const LONGEST: usize = 3165;
 
-    // The graph with nothing in it.
-    pub fn empty() -> Graph {
+    pub const AT_VERTICES: usize = 5;
+
+    pub const AT_ARCS: usize = 6;
+
+    pub const AT_READS: usize = 8;
+
+    // The graph with nothing in it. The limits are the definitions' own.
+    pub fn empty() -> Graph
+        ensures { λ r. ⌜ r ≡ emptyGraph ⌝ }
+        ensures counts { λ r. do ⌜ ((← ⟦Graph::MAX_VERTICES⟧ .entry) ≡ maxVertices) × ((← ⟦Graph::MAX_ARCS⟧ .entry) ≡ maxArcs) × ((← ⟦Graph::MAX_READS⟧ .entry) ≡ maxReads) ⌝ }
+        ensures numbers { λ r. do ⌜ ((← ⟦Graph::MAX_OPENING⟧ .entry) ≡ maxOpening) × ((← ⟦Graph::MAX_COST⟧ .entry) ≡ maxCost) × ((← ⟦Graph::MAX_DEMAND⟧ .entry) ≡ maxDemand) ⌝ }
+        ensures lengths { λ r. do ⌜ ((← ⟦Graph::MIN_READ⟧ .entry) ≡ minReadLength) × ((← ⟦Graph::MAX_READ⟧ .entry) ≡ maxReadLength) × ((← ⟦Graph::LONGEST⟧ .entry) ≡ longestGraph) ⌝ }
+    {
         let header = Header::empty();
-        Graph {
-            header,
-            first: [0; 65],
-        }
+        let first = [0; Graph::MAX_VERTICES + 1];
+        Graph { header, first }
     }
 }
+
+// The values of an answer form's header.
+pub struct Answer {
+    pub paths: usize,
+    pub price: usize,
+}
+
+impl Answer {
+    // Document 01, "Numbers allowed", "In an answer".
+    pub const MAX_PATHS: usize = 464;
+
+    pub const MAX_WEIGHT: usize = 320_000_016;
+
+    pub const MARK_LIMIT: usize = 2_000_000_000;
+
+    pub const LONGEST: usize = 32_543;
+
+    // The answer with nothing in it. The limits are the definitions' own.
+    pub fn empty() -> Answer
+        ensures { λ r. ⌜ r ≡ emptyAnswer ⌝ }
+        ensures limits { λ r. do ⌜ ((← ⟦Answer::MAX_PATHS⟧ .entry) ≡ maxPaths) × ((← ⟦Answer::MAX_WEIGHT⟧ .entry) ≡ maxWeight) × ((← ⟦Answer::MARK_LIMIT⟧ .entry) ≡ maxMark) × ((← ⟦Answer::LONGEST⟧ .entry) ≡ longestAnswer) ⌝ }
+    {
+        Answer { paths: 0, price: 0 }
+    }
+}
+
 mod reads;

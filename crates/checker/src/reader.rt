@@ -15,7 +15,7 @@ ghost use Rattle.checker.specs.GraphOf.{arcsOf};
 ghost use Rattle.checker.specs.GraphReads.{HeaderRight, ArcsRight};
 ghost use Rattle.checker.specs.ArcTable.{AsCounted, ArcTable, tailsBelow, arcNumber, goesOn};
 ghost use Rattle.checker.specs.Bytes.{part};
-ghost use Rattle.checker.specs.Limits.{maxVertices};
+ghost use Rattle.checker.specs.Limits.{maxVertices, maxArcs, longestGraph};
 
 // What is wrong with the header: 1, 2, 3 or 4.
 fn header_verdict(s: &[u8]) -> Verdict
@@ -30,17 +30,17 @@ fn header_verdict(s: &[u8]) -> Verdict
     if wide(s[4]) != 1 {
         return Verdict::new(2, 4);
     }
-    let n = wide(s[5]);
+    let n = wide(s[Graph::AT_VERTICES]);
     if n == 0 {
         return Verdict::new(3, 5);
     }
     if Graph::MAX_VERTICES < n {
         return Verdict::new(3, 5);
     }
-    if Graph::MAX_ARCS < be16(s, 6) {
+    if Graph::MAX_ARCS < be16(s, Graph::AT_ARCS) {
         return Verdict::new(3, 6);
     }
-    if Graph::MAX_READS < wide(s[8]) {
+    if Graph::MAX_READS < wide(s[Graph::AT_READS]) {
         return Verdict::new(3, 8);
     }
     if Graph::MAX_OPENING < be32(s, 9) {
@@ -51,7 +51,7 @@ fn header_verdict(s: &[u8]) -> Verdict
 
 // What is wrong with the record of vertex v: 5, 4 or nothing.
 fn vertex_fault(s: &[u8], v: usize) -> usize
-    requires { ⌜ v < 256 ⌝ }
+    requires { ⌜ v < maxVertices ⌝ }
     ensures { λ r. ⌜ r ≡ vertexFault (now (s .entry)) v ⌝ }
 {
     let at = Graph::HEADER + Graph::VERTEX * v;
@@ -69,7 +69,7 @@ fn vertex_fault(s: &[u8], v: usize) -> usize
 
 // The first faulty one of count vertex records.
 fn vertices_verdict(s: &[u8], count: usize) -> Verdict
-    requires { ⌜ count < 256 ⌝ }
+    requires { ⌜ count ≤ maxVertices ⌝ }
     ensures { λ r. ⌜ r ≡ firstFault (vertexFault (now (s .entry))) (vertexAt (now (s .entry))) count 0 ⌝ }
 {
     let mut v = 0;
@@ -85,7 +85,7 @@ fn vertices_verdict(s: &[u8], count: usize) -> Verdict
 
 // What is wrong with the arc record at an offset, in a form with n vertices: 5, 4, 6 or nothing. Tail and head as one number order the arcs.
 fn arc_fault(s: &[u8], n: usize, at: usize) -> usize
-    requires { ⌜ (n ≡ vertexCount (now s)) × (n < 256) × (arcAt (now s) 0 ≤ at) × (at < 1000000) ⌝ }
+    requires { ⌜ (n ≡ vertexCount (now s)) × (n ≤ maxVertices) × (arcAt (now s) 0 ≤ at) × (at ≤ longestGraph) ⌝ }
     ensures { λ r. ⌜ r ≡ arcFault (now (s .entry)) at ⌝ }
 {
     if s.len() < at + Graph::ARC {
@@ -115,7 +115,7 @@ fn arc_fault(s: &[u8], n: usize, at: usize) -> usize
 
 // The first faulty one of count arc records.
 fn arcs_verdict(s: &[u8], n: usize, count: usize) -> Verdict
-    requires { ⌜ (n ≡ vertexCount (now s)) × (n < 256) × (count < 65536) ⌝ }
+    requires { ⌜ (n ≡ vertexCount (now s)) × (n ≤ maxVertices) × (count ≤ maxArcs) ⌝ }
     ensures { λ r. ⌜ r ≡ firstFault (λ a. arcFault (now (s .entry)) (arcAt (now (s .entry)) a)) (arcAt (now (s .entry))) count 0 ⌝ }
 {
     let base = Graph::HEADER + Graph::VERTEX * n;
@@ -147,13 +147,13 @@ fn arcs_below(s: &[u8], n: usize, count: usize, u: usize, from: usize) -> usize
 }
 
 // The table of first arcs: at u the number of arcs whose tail is below u. Arcs are passed once, since they ascend by tail.
-pub fn first_arcs(s: &[u8]) -> [u16; 65]
+pub fn first_arcs(s: &[u8]) -> [u16; Graph::MAX_VERTICES + 1]
     requires { ⌜ ArcsRight (now s) ⌝ }
     ensures { λ r. ⌜ ArcTable (now (s .entry)) r ⌝ }
 {
-    let n = wide(s[5]);
-    let count = be16(s, 6);
-    let mut first = [0u16; 65];
+    let n = wide(s[Graph::AT_VERTICES]);
+    let count = be16(s, Graph::AT_ARCS);
+    let mut first = [0u16; Graph::MAX_VERTICES + 1];
     let mut below = 0;
     let mut u = 0;
     while u <= Graph::MAX_VERTICES {
@@ -165,11 +165,11 @@ pub fn first_arcs(s: &[u8]) -> [u16; 65]
 }
 
 // The number of the arc from u to v: a look at the arcs of tail u alone.
-pub fn find_arc(s: &[u8], first: &[u16; 65], u: usize, v: usize) -> Found
+pub fn find_arc(s: &[u8], first: &[u16; Graph::MAX_VERTICES + 1], u: usize, v: usize) -> Found
     requires { ⌜ ArcTable (now s) (now first) × (u < maxVertices) ⌝ }
     ensures { λ r. ⌜ r ≡ arcNumber (arcsOf (now (s .entry))) u v ⌝ }
 {
-    let base = Graph::HEADER + Graph::VERTEX * wide(s[5]);
+    let base = Graph::HEADER + Graph::VERTEX * wide(s[Graph::AT_VERTICES]);
     let end = wide16(first[u + 1]);
     let mut a = wide16(first[u]);
     while a < end {
@@ -182,7 +182,7 @@ pub fn find_arc(s: &[u8], first: &[u16; 65], u: usize, v: usize) -> Found
 }
 
 // Whether a walk may go on from vertex u to v: v is a vertex, and there is the arc.
-fn goes_on(s: &[u8], first: &[u16; 65], n: usize, u: usize, v: usize) -> bool
+fn goes_on(s: &[u8], first: &[u16; Graph::MAX_VERTICES + 1], n: usize, u: usize, v: usize) -> bool
     requires { ⌜ ArcTable (now s) (now first) × (n ≡ vertexCount (now s)) × (u < n) ⌝ }
     ensures { λ r. ⌜ r ≡ goesOn (vertexCount (now (s .entry))) (arcsOf (now (s .entry))) u v ⌝ }
 {
@@ -196,11 +196,17 @@ fn goes_on(s: &[u8], first: &[u16; 65], n: usize, u: usize, v: usize) -> bool
 }
 
 // Whether count bytes of a form, from an offset on, are vertices of the graph s, each consecutive pair an arc.
-pub fn is_walk(s: &[u8], first: &[u16; 65], form: &[u8], at: usize, count: usize) -> bool
+pub fn is_walk(
+    s: &[u8],
+    first: &[u16; Graph::MAX_VERTICES + 1],
+    form: &[u8],
+    at: usize,
+    count: usize,
+) -> bool
     requires { ⌜ ArcTable (now s) (now first) × (1 ≤ count) × (at + count ≤ length (now form)) ⌝ }
     ensures { λ r. ⌜ r ≡ walks (vertexCount (now (s .entry))) (arcsOf (now (s .entry))) (part (now (form .entry)) at count) ⌝ }
 {
-    let n = wide(s[5]);
+    let n = wide(s[Graph::AT_VERTICES]);
     let end = at + count;
     let mut u = wide(form[at]);
     if n <= u {
@@ -219,7 +225,7 @@ pub fn is_walk(s: &[u8], first: &[u16; 65], form: &[u8], at: usize, count: usize
 }
 
 // What is wrong with the read at an offset: 5, 7 or nothing.
-fn read_fault(s: &[u8], first: &[u16; 65], at: usize) -> usize
+fn read_fault(s: &[u8], first: &[u16; Graph::MAX_VERTICES + 1], at: usize) -> usize
     requires { ⌜ ArcTable (now s) (now first) ⌝ }
     ensures { λ r. ⌜ r ≡ readFault (now (s .entry)) at ⌝ }
 {
@@ -243,7 +249,12 @@ fn read_fault(s: &[u8], first: &[u16; 65], at: usize) -> usize
 }
 
 // The first faulty one of count reads, the first of them at an offset; then the bytes that remain.
-fn reads_verdict(s: &[u8], first: &[u16; 65], count: usize, from: usize) -> Verdict
+fn reads_verdict(
+    s: &[u8],
+    first: &[u16; Graph::MAX_VERTICES + 1],
+    count: usize,
+    from: usize,
+) -> Verdict
     requires { ⌜ ArcTable (now s) (now first) ⌝ }
     ensures { λ r. ⌜ r ≡ readsVerdict (now (s .entry)) count from ⌝ }
 {
@@ -268,7 +279,7 @@ fn arcs_then_reads(s: &[u8], n: usize) -> Verdict
     requires { ⌜ HeaderRight (now s) × (n ≡ vertexCount (now s)) ⌝ }
     ensures { λ r. ⌜ r ≡ then (arcsVerdict (now (s .entry))) (readsVerdict (now (s .entry)) (readCount (now (s .entry))) (firstReadAt (now (s .entry)))) ⌝ }
 {
-    let m = be16(s, 6);
+    let m = be16(s, Graph::AT_ARCS);
     let arcs = arcs_verdict(s, n, m);
     if arcs.number != 0 {
         return arcs;
@@ -277,7 +288,7 @@ fn arcs_then_reads(s: &[u8], n: usize) -> Verdict
     reads_verdict(
         s,
         &first,
-        wide(s[8]),
+        wide(s[Graph::AT_READS]),
         Graph::HEADER + Graph::VERTEX * n + Graph::ARC * m,
     )
 }
@@ -290,7 +301,7 @@ pub fn read_graph(s: &[u8]) -> Verdict
     if header.number != 0 {
         return header;
     }
-    let n = wide(s[5]);
+    let n = wide(s[Graph::AT_VERTICES]);
     let vertices = vertices_verdict(s, n);
     if vertices.number != 0 {
         return vertices;

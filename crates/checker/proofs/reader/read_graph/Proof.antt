@@ -23,7 +23,7 @@ wide-requires : tie.Need-wide-requires
 wide-requires c κs = search needs
 
 vertices-verdict-requires : tie.Need-vertices-verdict-requires
-vertices-verdict-requires c κs = search needs
+vertices-verdict-requires c κs = omega (arith, header-holds _ (ap (λ (v : Verdict). v .number) (sym (c .before .before .before .before .header-verdict .ensures)) ∙ c .before .before .if1 .left) .few-vertices)
 
 returns-2 : tie.Need-returns-2
 unfolding graphVerdict

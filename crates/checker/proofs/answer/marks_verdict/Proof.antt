@@ -1,0 +1,54 @@
+-- `checker::answer::marks_verdict` gives the first mark out of range: the verdict of all marks is that of those left.
+use Rattle.checker.proofs.AnswerLaws.{MarksLeft, marks-begin, marks-turn, marks-stop, marks-end}
+use borrow.Author.Needs.{needs}
+use Rattle.checker.proofs.answer.marks_verdict.Statement.{statement}
+use Rattle.checker.proofs.answer.marks_verdict.Tie as tie
+
+abbrev Inv-loop : tie.InvT-loop
+Inv-loop t n left₀ at₀ left at = MarksLeft t n left at
+
+abbrev μ-loop : tie.MeasureT-loop
+μ-loop t n left₀ at₀ left at = left
+
+mul-left : tie.Need-mul-left Inv-loop μ-loop
+mul-left c = search needs
+
+loop-holds : tie.Need-loop-holds Inv-loop μ-loop
+loop-holds c = marks-begin _ _
+
+mark-fault-requires : tie.Need-mark-fault-requires Inv-loop μ-loop
+mark-fault-requires c κs = search needs
+
+returns : tie.Need-returns Inv-loop μ-loop
+returns c = marks-stop (c .before .before .before .loop .inv) _ (search needs) (search needs) (search needs)
+
+add-at : tie.Need-add-at Inv-loop μ-loop
+add-at c = search needs
+
+sub-left : tie.Need-sub-left Inv-loop μ-loop
+sub-left c = search needs
+
+loop-less : tie.Need-loop-less Inv-loop μ-loop
+loop-less c = search needs
+
+loop-again : tie.Need-loop-again Inv-loop μ-loop
+loop-again c = marks-turn (c .before .before .before .loop .inv) (search needs) (search needs)
+
+returns-2 : tie.Need-returns-2 Inv-loop μ-loop
+returns-2 c = marks-end (c .before .loop .inv) (search needs)
+
+pub marks-verdict-spec : {M : Type 1} → statement M
+marks-verdict-spec =
+    tie.close
+    (tie.spec
+    Inv-loop
+    μ-loop
+    mul-left
+    loop-holds
+    mark-fault-requires
+    returns
+    add-at
+    sub-left
+    loop-less
+    loop-again
+    returns-2)
