@@ -3,12 +3,6 @@ pub mod Scan
 pub mod HeaderLaws
 pub mod RecordLaws
 pub mod ArcLaws
--- Laws that the proofs of functions cite.
-pub mod TableLaws
-pub mod OverlapLaws
-pub mod AnswerLaws
-pub mod CertifyLawsSlack
-pub mod CertifyLaws
 pub mod WalkLaws
 pub mod ReadLaws
 pub mod RightLaws
@@ -16,6 +10,8 @@ pub mod ThenLaws
 pub mod GraphReads
 pub mod GraphFacts
 pub mod Lookup
+pub mod TableLaws
+pub mod OverlapLaws
 pub mod TableRows
 pub mod DropLaws
 pub mod LongestLaws

@@ -3,11 +3,10 @@ pub mod Limits
 pub mod GraphForm
 pub mod GraphFaults
 pub mod GraphOf
+pub mod GraphReads
+pub mod ArcTable
+pub mod Empty
+pub mod ReadTable
 pub mod AnswerForm
 pub mod AnswerFaults
 pub mod Check
-pub mod GraphReads
-pub mod ArcTable
-pub mod ReadTable
-pub mod Certify
-pub mod Empty

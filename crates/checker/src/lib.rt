@@ -1,9 +1,8 @@
 // Reading and checking: the layer that takes every byte string, checks it itself and comes to an end.
 // The definitions that the contracts cite are in specs/, in document 01's words and order.
-pub mod answer;
 pub mod bytes;
-pub mod certify;
 pub mod reader;
+pub mod reads;
 
 ghost use mathlib.Core.Path.{_≡_};
 ghost use Rattle.checker.specs.GraphFaults.{refusal};
@@ -127,5 +126,3 @@ impl Answer {
         Answer { paths: 0, price: 0 }
     }
 }
-
-mod reads;
