@@ -66,6 +66,19 @@ pub record Chained (N E : ℕ) (key head next : List ℕ) : Type 0 where
   pub next-key : (f : ℕ) → f < E → (g : ℕ) → at next f ≡ g + 1 → at key g ≡ at key f
   pub next-all : (f : ℕ) → f < E → (e : ℕ) → e < f → at key e ≡ at key f → e < at next f
 
+-- what building a chain asks: the keys are nodes, and the arrays are as long as they are
+pub record Keys (N E : ℕ) (key head next : List ℕ) : Type 0 where
+  pub few-nodes : N ≤ 129
+  pub few-edges : E ≤ 464
+  pub key-node : (e : ℕ) → e < E → at key e < N
+  pub head-long : length head ≡ 129
+  pub next-long : length next ≡ 464
+
+-- the first N are 0
+pub record Cleared (N : ℕ) (head : List ℕ) : Type 0 where
+  pub long : length head ≡ 129
+  pub nothing : (u : ℕ) → u < N → at head u ≡ 0
+
 -- every slack is at least 0: cost plus the mark an edge comes from is not below the mark it goes to
 abbrev pub SlacksHold : ℕ → List ℕ → List ℕ → List ℕ → List ℕ → Type 0
 SlacksHold E from to cost mark = (e : ℕ) → e < E → at mark (at to e) ≤ at cost e + at mark (at from e)

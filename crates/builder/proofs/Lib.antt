@@ -1,0 +1,2 @@
+-- The laws that the builder's proofs cite.
+pub mod NetworkLaws
