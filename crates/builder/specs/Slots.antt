@@ -15,7 +15,7 @@ use Rattle.mathematics.specs.Prepare.{prepare}
 use Rattle.mathematics.specs.Bound.{rest}
 use Rattle.mathematics.specs.Reach.{useful}
 use Rattle.mathematics.proofs.Links.{Link, opening, closing, inside, across, reading, linkFrom, linkTo}
-use Rattle.checker.specs.GraphForm.{vertexCount, arcCount, openingPrice, arcTail, arcHead, arcCost, arcDemand, vertexDemand}
+use Rattle.checker.specs.GraphForm.{vertexCount, arcCount, openingPrice, arcAt, arcTail, arcHead, arcCost, arcDemand, vertexDemand}
 use Rattle.checker.specs.GraphOf.{graphOf}
 
 -- the prepared reads of the graph form s
@@ -50,7 +50,7 @@ unfoldable pub linkAt : List ℕ → ℕ → Link
 linkAt s e =
     cond (ltb e (vertexCount s)) (inside e)
     (cond (ltb e (vertexCount s + arcCount s))
-    (across (arcTail s (vertexCount s + arcCount s - (e + 1))) (arcHead s (vertexCount s + arcCount s - (e + 1))))
+    (across (arcTail s (arcAt s (vertexCount s + arcCount s - (e + 1)))) (arcHead s (arcAt s (vertexCount s + arcCount s - (e + 1)))))
     (cond (ltb e (2 * vertexCount s + arcCount s)) (opening (2 * vertexCount s + arcCount s - (e + 1)))
     (cond (ltb e (plainSlots s)) (closing (e - (2 * vertexCount s + arcCount s)))
     (reading (getD (preparedOf s) (e - plainSlots s) [])))))
@@ -80,7 +80,7 @@ unfoldable pub edgeCost : List ℕ → ℕ → ℕ
 edgeCost s e =
     cond (inUse s (linkAt s e))
     (cond (ltb e (vertexCount s)) 0
-    (cond (ltb e (vertexCount s + arcCount s)) (arcCost s (vertexCount s + arcCount s - (e + 1)))
+    (cond (ltb e (vertexCount s + arcCount s)) (arcCost s (arcAt s (vertexCount s + arcCount s - (e + 1))))
     (cond (ltb e (2 * vertexCount s + arcCount s)) (openingPrice s) 0))) 0
 
 -- what lies on an edge at first: a vertex's and an arc's rest, and one unit of each prepared read
@@ -89,6 +89,6 @@ firstLoad s e =
     cond (ltb e (vertexCount s)) (rest (preparedOf s) (vert e) (vertexDemand s e))
     (cond (ltb e (vertexCount s + arcCount s))
     (rest (preparedOf s)
-    (arc (arcTail s (vertexCount s + arcCount s - (e + 1))) (arcHead s (vertexCount s + arcCount s - (e + 1))))
-    (arcDemand s (vertexCount s + arcCount s - (e + 1))))
+    (arc (arcTail s (arcAt s (vertexCount s + arcCount s - (e + 1)))) (arcHead s (arcAt s (vertexCount s + arcCount s - (e + 1)))))
+    (arcDemand s (arcAt s (vertexCount s + arcCount s - (e + 1)))))
     (cond (ltb e (plainSlots s)) 0 1))
