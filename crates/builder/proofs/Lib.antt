@@ -1,2 +1,3 @@
 -- The laws that the builder's proofs cite.
 pub mod NetworkLaws
+pub mod PeelLaws

@@ -2,13 +2,16 @@
 -- these; no public promise does.
 use Prim.Native.Nat.{ℕ, zero, suc, _+_, _*_, _≤_, _<_}
 use mathlib.Core.Path.{_≡_}
-use mathlib.Core.List.{List, [], _∷_}
+use mathlib.Core.List.{List, [], _∷_, _++_}
 use mathlib.Core.Bool.{Bool}
+use mathlib.Core.Logic.{_⊎_}
 use lib.Dec.{T}
 use lib.ListN.{length, getD, take}
 use Rattle.mathematics.specs.Lists.{All, someHolds}
 use Rattle.mathematics.specs.Graph.{isPath}
 use Rattle.mathematics.specs.Cover.{Item, Weighted, total, totalWeight, paths}
+use Rattle.mathematics.specs.Range.{OneOf}
+use Rattle.mathematics.proofs.Loads.{sumOver}
 use Rattle.mathematics.proofs.Links.{AtEnds, passes, opens}
 use Rattle.checker.specs.Bytes.{tabulate}
 use Rattle.checker.specs.GraphOf.{graphOf}
@@ -37,9 +40,43 @@ pub record GoesRound (s : List ℕ) (N : ℕ) (from to load : List ℕ) : Type 0
   pub in-use : (e : ℕ) → e < allSlots s → 1 ≤ at load e → T (inUse s (linkAt s e))
   pub balance : (u : ℕ) → u < N → leaving from load (allSlots s) u ≡ entering to load (allSlots s) u
 
--- the worth of the loads, of which each link has a value
+-- the worth of the loads on the first E edges, of which each has a value
+abbrev pub worthTo : ℕ → List ℕ → (ℕ → ℕ) → ℕ
+worthTo E load value = sumTo E (λ e. at load e * value e)
+
+-- the worth of the loads on all links of the form s
 abbrev pub worthOf : List ℕ → List ℕ → (ℕ → ℕ) → ℕ
-worthOf s load value = sumTo (allSlots s) (λ e. at load e * value e)
+worthOf s load value = worthTo (allSlots s) load value
+
+-- Loads that go round, of a bare network: a loaded edge joins nodes, rises or leads back to the root, and as much comes into each node as goes out.
+pub record Circles (N E : ℕ) (from to load : List ℕ) : Type 0 where
+  pub from-node : (e : ℕ) → e < E → 1 ≤ at load e → at from e < N
+  pub to-node : (e : ℕ) → e < E → 1 ≤ at load e → at to e < N
+  pub rises : (e : ℕ) → e < E → 1 ≤ at load e → ((at to e ≡ 0) × (1 ≤ at from e)) ⊎ (at from e < at to e)
+  pub balance : (u : ℕ) → u < N → leaving from load E u ≡ entering to load E u
+
+-- r is the number plus 1 of a loaded edge that leaves u, or 0 where there is none
+pub record NextLoaded (E : ℕ) (from load : List ℕ) (u r : ℕ) : Type 0 where
+  pub none : r ≡ 0 → (e : ℕ) → e < E → at from e ≡ u → at load e ≡ 0
+  pub some : (e : ℕ) → r ≡ e + 1 → (e < E) × (at from e ≡ u) × (1 ≤ at load e)
+
+-- the edges lead from the node u back to the root, and the nodes rise on the way
+abbrev pub Winds : List ℕ → List ℕ → ℕ → List ℕ → Type 0
+Winds from to u [] = ⊥
+Winds from to u (e ∷ es) = (at from e ≡ u) × (((at to e ≡ 0) × (es ≡ [])) ⊎ ((u < at to e) × Winds from to (at to e) es))
+
+-- A walk from the root back to it: its edges are the first len of the way, and amount is the least load on them.
+pub record Walked (E : ℕ) (from to load way : List ℕ) (len amount : ℕ) : Type 0 where
+  pub fits : len ≤ 129
+  pub winds : Winds from to 0 (take len way)
+  pub carries : All (λ e. (e < E) × (amount ≤ at load e)) (take len way)
+  pub some : 1 ≤ amount
+  pub empties : (e : ℕ) × OneOf (take len way) e × (at load e ≡ amount)
+
+-- the loads after each edge of the way has lost the amount: whatever the edges are worth
+pub record TakenOff (E : ℕ) (load : List ℕ) (ws : List ℕ) (amount : ℕ) (after : List ℕ) : Type 0 where
+  pub long : length after ≡ 464
+  pub worths : (g : ℕ → ℕ) → worthTo E load g ≡ worthTo E after g + amount * sumOver g ws
 
 -- The weighted paths W carry the loads, and nothing else: what theorem 6 of the mathematics asks of a decomposition.
 pub record Peeled (s : List ℕ) (load : List ℕ) (W : List Weighted) : Type 0 where

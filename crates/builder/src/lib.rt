@@ -9,3 +9,5 @@ pub struct Built {
 
 // A bare network and the flow of lowest cost in it: it knows nothing of graphs and reads.
 mod network;
+// Weighted paths from the loads.
+mod peel;
