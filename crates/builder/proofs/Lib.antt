@@ -1,3 +1,4 @@
 -- The laws that the builder's proofs cite.
 pub mod NetworkLaws
 pub mod PeelLaws
+pub mod PeelLawsTable

@@ -1,11 +1,11 @@
 -- Taking paths off the loads: what the table of collected paths stands for, and what it has to hold once all loads are taken off. Private functions cite
 -- these; no public promise does.
-use Prim.Native.Nat.{ℕ, zero, suc, _+_, _*_, _≤_, _<_}
+use Prim.Native.Nat.{ℕ, zero, suc, _+_, _*_, _-_, _≤_, _<_}
 use mathlib.Core.Path.{_≡_}
 use mathlib.Core.List.{List, [], _∷_, _++_}
-use mathlib.Core.Bool.{Bool}
+use mathlib.Core.Bool.{Bool, true, false, cond}
 use mathlib.Core.Logic.{_⊎_}
-use lib.Dec.{T}
+use lib.Dec.{T, ltb}
 use lib.ListN.{length, getD, take}
 use Rattle.mathematics.specs.Lists.{All, someHolds}
 use Rattle.mathematics.specs.Graph.{isPath}
@@ -16,12 +16,16 @@ use Rattle.mathematics.proofs.Links.{AtEnds, passes, opens}
 use Rattle.checker.specs.Bytes.{tabulate}
 use Rattle.checker.specs.GraphOf.{graphOf}
 use Rattle.checker.specs.AnswerFaults.{listBefore}
+use Rattle.builder.specs.declared.collect.Spot.{Spot}
 use Rattle.builder.specs.Network.{at, sumTo, leaving, entering}
 use Rattle.builder.specs.Slots.{preparedOf, allSlots, openingSlot, closingSlot, linkAt, inUse, edgeFrom, edgeTo}
 
--- row i of the table of collected paths, with its weight
+-- the path in row i of the table of collected paths, and with its weight
+abbrev pub pathAt : List (List ℕ) → List ℕ → ℕ → List ℕ
+pathAt rows lens i = take (at lens i) (getD rows i [])
+
 abbrev pub collectedAt : List (List ℕ) → List ℕ → List ℕ → ℕ → Weighted
-collectedAt rows lens weights i = record { weight = at weights i; path = take (at lens i) (getD rows i []) }
+collectedAt rows lens weights i = record { weight = at weights i; path = pathAt rows lens i }
 
 -- the weighted paths in the first count rows
 unfoldable pub collected : List (List ℕ) → List ℕ → List ℕ → ℕ → List Weighted
@@ -32,6 +36,60 @@ abbrev pub Ascend : List Weighted → Type 0
 Ascend [] = Unit {0}
 Ascend (w ∷ []) = Unit {0}
 Ascend (w ∷ x ∷ more) = T (listBefore (w .path) (x .path)) × Ascend (x ∷ more)
+
+-- where the list p stands beside q: 0 before it, 1 where they are the same, 2 after it
+unfoldable pub orderOf : List ℕ → List ℕ → ℕ
+orderOf [] [] = 1
+orderOf [] (y ∷ q) = 0
+orderOf (x ∷ p) [] = 2
+orderOf (x ∷ p) (y ∷ q) = cond (ltb x y) 0 (cond (ltb y x) 2 (orderOf p q))
+
+-- a row of 64 numbers of which the first len are in use
+pub record RowFits (row : List ℕ) (len : ℕ) : Type 0 where
+  pub wide : length row ≡ 64
+  pub fit : len ≤ 64
+
+-- the table has 464 rows of 64 and as many lengths and weights, and the paths in its first count rows strictly ascend
+pub record PathTable (rows : List (List ℕ)) (lens weights : List ℕ) (count : ℕ) : Type 0 where
+  pub counted : count ≤ 464
+  pub tall : length rows ≡ 464
+  pub sized : length lens ≡ 464
+  pub weighed : length weights ≡ 464
+  pub wide : (k : ℕ) → k < count → length (getD rows k []) ≡ 64
+  pub fit : (k : ℕ) → k < count → at lens k ≤ 64
+  pub ascends : (k : ℕ) → k + 1 < count → T (listBefore (pathAt rows lens k) (pathAt rows lens (k + 1)))
+
+-- where the path p stands in the table, or belongs
+pub record Spotted (rows : List (List ℕ)) (lens : List ℕ) (count : ℕ) (p : List ℕ) (spot : Spot) : Type 0 where
+  pub same : spot .same ≡ true → (spot .at < count) × (p ≡ pathAt rows lens (spot .at))
+  pub within : spot .same ≡ false → spot .at ≤ count
+  pub before : spot .same ≡ false → 1 ≤ spot .at → T (listBefore (pathAt rows lens (spot .at - 1)) p)
+  pub after : spot .same ≡ false → spot .at < count → T (listBefore p (pathAt rows lens (spot .at)))
+
+-- what stands from j on up to count has moved one place on
+pub record Shifted {A : Type 0} (none : A) (old new : List A) (j count : ℕ) : Type 0 where
+  pub long : length new ≡ length old
+  pub before : (k : ℕ) → k ≤ j → getD new k none ≡ getD old k none
+  pub after : (k : ℕ) → j < k → k ≤ count → getD new k none ≡ getD old (k - 1) none
+
+-- the weighted path w is added to the list: as a new one, or to the weight of the same path
+pub data Inserted (w : Weighted) (W after : List Weighted) : Type 0 where
+  fresh : (a b : List Weighted) → W ≡ a ++ b → after ≡ a ++ (w ∷ b) → Inserted w W after
+  added : (a b : List Weighted) (n : ℕ) → W ≡ a ++ (record { weight = n; path = w .path } ∷ b) →
+      after ≡ a ++ (record { weight = n + w .weight; path = w .path } ∷ b) → Inserted w W after
+
+-- the path p belongs into row i
+pub record Belongs (rows : List (List ℕ)) (lens : List ℕ) (count : ℕ) (p : List ℕ) (i : ℕ) : Type 0 where
+  pub room : count < 464
+  pub within : i ≤ count
+  pub before : 1 ≤ i → T (listBefore (pathAt rows lens (i - 1)) p)
+  pub after : i < count → T (listBefore p (pathAt rows lens i))
+
+-- the table holds the weighted path w besides W, which it held in its first count rows
+pub record Collected (w : Weighted) (W : List Weighted) (count : ℕ) (rows : List (List ℕ)) (lens weights : List ℕ) (r : ℕ) : Type 0 where
+  pub table : PathTable rows lens weights r
+  pub inserted : Inserted w W (collected rows lens weights r)
+  pub few : r ≤ count + 1
 
 -- Loads on the links of the form s that go round: as much comes into each node as goes out, only links in use carry something, each prepared read one unit.
 pub record GoesRound (s : List ℕ) (N : ℕ) (from to load : List ℕ) : Type 0 where

@@ -11,3 +11,5 @@ pub struct Built {
 mod network;
 // Weighted paths from the loads.
 mod peel;
+// The paths that are taken off, merged in order.
+mod collect;
