@@ -2,3 +2,4 @@
 pub mod NetworkLaws
 pub mod PeelLaws
 pub mod PeelLawsTable
+pub mod PeelLawsLinks
