@@ -3,3 +3,4 @@ pub mod NetworkLaws
 pub mod PeelLaws
 pub mod PeelLawsTable
 pub mod PeelLawsLinks
+pub mod PeelLawsPath

@@ -126,7 +126,7 @@ module _ (s : List ℕ) (reads : Reads s) where
       go (read r q i) =
           rw i
           (let h = at-all (λ (r : List ℕ). (2 ≤ length r) × T (linked (graphOf s .arcs) r)) [] (preparedOf s) (prepared-linked (graphOf s) (graph-well-formed s reads)) r (omega arith) in
-            read-of-graph (getD (preparedOf s) r []) (h .0) (h .1))
+          read-of-graph (getD (preparedOf s) r []) (h .0) (h .1))
 
   -- a link of the graph leads back to the root, or rises
   abbrev finish : ℕ
@@ -206,8 +206,8 @@ module _ (s : List ℕ) (reads : Reads s) where
       sym (edge-from _ from to load goes e b l) ∙ f,
       (of-graph e b (goes .in-use e b l), used-link load₀ e (omega (arith, below e b))),
       subst (λ (x : ℕ). Leads (graphOf s) (OpensAt load₀) (ClosesAt load₀) x (map (linkAt s) es))
-      (edge-to _ from to load goes e b l ∙ ⊎-elim (λ k. absurd (omega (arith, edge-to _ from to load goes e b l))) (λ k. sym (k .2)) (edge-ways _ from to load goes e b l))
-      (leads (at to e) es w h),
+          (edge-to _ from to load goes e b l ∙ ⊎-elim (λ k. absurd (omega (arith, edge-to _ from to load goes e b l))) (λ k. sym (k .2)) (edge-ways _ from to load goes e b l))
+          (leads (at to e) es w h),
     )
 
     -- a walk from the root back to it is a path from a start to an end

@@ -14,11 +14,13 @@ use Rattle.mathematics.specs.Range.{OneOf}
 use Rattle.mathematics.proofs.Loads.{sumOver}
 use Rattle.mathematics.proofs.Links.{AtEnds, passes, opens}
 use Rattle.checker.specs.Bytes.{tabulate}
+use Rattle.checker.specs.GraphForm.{vertexCount}
 use Rattle.checker.specs.GraphOf.{graphOf}
+use Rattle.checker.specs.ReadTable.{Leaves}
 use Rattle.checker.specs.AnswerFaults.{listBefore}
 use Rattle.builder.specs.declared.collect.Spot.{Spot}
 use Rattle.builder.specs.Network.{at, sumTo, leaving, entering}
-use Rattle.builder.specs.Slots.{preparedOf, allSlots, openingSlot, closingSlot, linkAt, inUse, edgeFrom, edgeTo}
+use Rattle.builder.specs.Slots.{preparedOf, plainSlots, allSlots, openingSlot, closingSlot, linkAt, inUse, edgeFrom, edgeTo}
 
 -- the path in row i of the table of collected paths, and with its weight
 abbrev pub pathAt : List (List ℕ) → List ℕ → ℕ → List ℕ
@@ -90,6 +92,19 @@ pub record Collected (w : Weighted) (W : List Weighted) (count : ℕ) (rows : Li
   pub table : PathTable rows lens weights r
   pub inserted : Inserted w W (collected rows lens weights r)
   pub few : r ≤ count + 1
+
+-- what writing a walk's path asks: the number of vertices, the number of the first read's edge, and the table of the prepared reads
+pub record ReadsHeld (s : List ℕ) (vertices plain : ℕ) (rows : List (List ℕ)) (lens : List ℕ) : Type 0 where
+  pub vertices-right : vertices ≡ vertexCount s
+  pub few-vertices : vertices ≤ 64
+  pub plain-right : plain ≡ plainSlots s
+  pub table : Leaves rows lens (length (preparedOf s)) (preparedOf s)
+
+-- the vertices vs stand in the row behind its first r numbers, which are those of before
+pub record Written (before : List ℕ) (r : ℕ) (vs row : List ℕ) (end : ℕ) : Type 0 where
+  pub wide : length row ≡ 64
+  pub end-right : end ≡ r + length vs
+  pub stand : take end row ≡ take r before ++ vs
 
 -- Loads on the links of the form s that go round: as much comes into each node as goes out, only links in use carry something, each prepared read one unit.
 pub record GoesRound (s : List ℕ) (N : ℕ) (from to load : List ℕ) : Type 0 where

@@ -1,9 +1,13 @@
 // Taking weighted paths off the loads: walks from the root back to the root along loaded edges, each with the least load on it.
 ghost use mathlib.Core.Path.{_≡_};
 ghost use Prim.Native.Nat.{ℕ, _+_, _*_, _<_, _≤_};
-ghost use lib.ListN.{length, take};
+ghost use mathlib.Core.List.{List, [], map};
+ghost use lib.ListN.{length, take, getD};
+ghost use Rattle.mathematics.specs.Lists.{All};
+ghost use Rattle.mathematics.proofs.Links.{linkVertices, pathOf};
 ghost use Rattle.builder.specs.Network.{at, Chained};
-ghost use Rattle.builder.specs.Peel.{Circles, NextLoaded, Walked, TakenOff};
+ghost use Rattle.builder.specs.Slots.{allSlots, linkAt};
+ghost use Rattle.builder.specs.Peel.{RowFits, ReadsHeld, Written, Circles, NextLoaded, Walked, TakenOff};
 
 // A walk's number of edges, and the least load on them.
 struct Trip {
@@ -91,4 +95,70 @@ fn take_off(
         load[e] -= amount;
         k += 1;
     }
+}
+
+// Puts the read of row i behind the first r vertices of a path.
+fn copy_read(rows: &[[u8; 64]; 16], i: usize, size: usize, row: &mut [u8; 64], r: usize)
+    requires { ⌜ (i < 16) × (r + size ≤ 64) × (length (now row) ≡ 64) × (length (getD (now rows) i []) ≡ 64) ⌝ }
+    ensures { λ _. ⌜ Written (now (row .entry)) r (take size (getD (now (rows .entry)) i [])) (now (row .exit)) (r + size) ⌝ }
+{
+    let mut k: usize = 0;
+    while k < size {
+        row[r + k] = rows[i][k];
+        k += 1;
+    }
+}
+
+// Puts the vertices of the edge's link behind the first r vertices of a path: an inside edge has its vertex, a read its vertices. Gives how many there are now.
+fn put_link(
+    s: &[u8],
+    vertices: usize,
+    plain: usize,
+    rows: &[[u8; 64]; 16],
+    lens: &[usize; 16],
+    e: usize,
+    row: &mut [u8; 64],
+    r: usize,
+) -> usize
+    requires held { ⌜ ReadsHeld (now s) vertices plain (now rows) (now lens) ⌝ }
+    requires room { ⌜ (e < allSlots (now s)) × (length (now row) ≡ 64) × (r + length (linkVertices (linkAt (now s) e)) ≤ 64) ⌝ }
+    ensures { λ t. ⌜ Written (now (row .entry)) r (linkVertices (linkAt (now (s .entry)) e)) (now (row .exit)) t ⌝ }
+{
+    if e < vertices {
+        row[r] = e as u8;
+        return r + 1;
+    }
+    if e < plain {
+        return r;
+    }
+    let i = e - plain;
+    let size = lens[i];
+    copy_read(rows, i, size, row, r);
+    r + size
+}
+
+// The vertices of the way's links, written to the front of a row. Gives how many there are.
+fn path_of(
+    s: &[u8],
+    vertices: usize,
+    plain: usize,
+    rows: &[[u8; 64]; 16],
+    lens: &[usize; 16],
+    way: &[usize; 129],
+    len: usize,
+    row: &mut [u8; 64],
+) -> usize
+    requires held { ⌜ ReadsHeld (now s) vertices plain (now rows) (now lens) ⌝ }
+    requires walk { ⌜ (len ≤ 129) × (length (now way) ≡ 129) × All (λ e. e < allSlots (now s)) (take len (now way)) ⌝ }
+    requires room { ⌜ (length (now row) ≡ 64) × (length (pathOf (map (linkAt (now s)) (take len (now way)))) ≤ 64) ⌝ }
+    ensures fits { λ r. ⌜ RowFits (now (row .exit)) r ⌝ }
+    ensures path { λ r. ⌜ take r (now (row .exit)) ≡ pathOf (map (linkAt (now (s .entry))) (take len (now (way .entry)))) ⌝ }
+{
+    let mut r: usize = 0;
+    let mut k: usize = 0;
+    while k < len {
+        r = put_link(s, vertices, plain, rows, lens, way[k], row, r);
+        k += 1;
+    }
+    r
 }
