@@ -4,3 +4,4 @@ pub mod PeelLaws
 pub mod PeelLawsTable
 pub mod PeelLawsLinks
 pub mod PeelLawsPath
+pub mod PeelLawsAll

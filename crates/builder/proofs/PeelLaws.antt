@@ -97,7 +97,7 @@ pub share-there : (u v k : ℕ) → u ≢ v → share u v k ≡ 0
 share-there u v k n = ap (λ (b : Bool). cond b k 0) (is-false (eqb u v) (λ t. n (eqb→eq u v t)))
 
 -- the loads on the edges whose key is u: nothing where none of them is loaded, and no less than one of them
-shares-nothing : (E : ℕ) (key load : List ℕ) (u : ℕ) → ((e : ℕ) → e < E → at key e ≡ u → at load e ≡ 0) →
+pub shares-nothing : (E : ℕ) (key load : List ℕ) (u : ℕ) → ((e : ℕ) → e < E → at key e ≡ u → at load e ≡ 0) →
     sumTo E (λ e. share u (at key e) (at load e)) ≡ 0
 shares-nothing E key load u h = sum-nothing E _ (λ e b. go e b (same-or-not u (at key e)))
   where
@@ -105,7 +105,7 @@ shares-nothing E key load u h = sum-nothing E _ (λ e b. go e b (same-or-not u (
     go e b (inl q) = rw (← q, share-here) (h e b (sym q))
     go e b (inr n) = share-there u (at key e) (at load e) n
 
-shares-part : (E : ℕ) (key load : List ℕ) (u e : ℕ) → e < E → at key e ≡ u → at load e ≤ sumTo E (λ e. share u (at key e) (at load e))
+pub shares-part : (E : ℕ) (key load : List ℕ) (u e : ℕ) → e < E → at key e ≡ u → at load e ≤ sumTo E (λ e. share u (at key e) (at load e))
 shares-part E key load u e b k =
     subst (λ (n : ℕ). n ≤ sumTo E (λ e. share u (at key e) (at load e))) (ap (λ (v : ℕ). share u v (at load e)) k ∙ share-here u (at load e))
     (sum-part E (λ e. share u (at key e) (at load e)) e b)

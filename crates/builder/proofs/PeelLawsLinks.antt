@@ -43,7 +43,7 @@ pub data Stands (s : List ℕ) (e : ℕ) : Type 0 where
   stop : (v : ℕ) → e ≡ closingSlot s v → vertexCount s ≤ e → e < plainSlots s → linkAt s e ≡ closing v → Stands s e
   read : (r : ℕ) → e ≡ readingSlot s r → linkAt s e ≡ reading (getD (preparedOf s) r []) → Stands s e
 
-link-read : (s : List ℕ) (e : ℕ) → plainSlots s ≤ e → linkAt s e ≡ reading (getD (preparedOf s) (e - plainSlots s) [])
+pub link-read : (s : List ℕ) (e : ℕ) → plainSlots s ≤ e → linkAt s e ≡ reading (getD (preparedOf s) (e - plainSlots s) [])
 unfolding linkAt
 link-read s e h =
     pick-second e (vertexCount s) _ _ (omega arith) ∙

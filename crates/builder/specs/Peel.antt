@@ -1,8 +1,8 @@
 -- Taking paths off the loads: what the table of collected paths stands for, and what it has to hold once all loads are taken off. Private functions cite
 -- these; no public promise does.
-use Prim.Native.Nat.{ℕ, zero, suc, _+_, _*_, _-_, _≤_, _<_}
+use Prim.Native.Nat.{ℕ, zero, suc, _+_, _*_, _-_, _≤_, _<_, min}
 use mathlib.Core.Path.{_≡_}
-use mathlib.Core.List.{List, [], _∷_, _++_}
+use mathlib.Core.List.{List, [], _∷_, _++_, map}
 use mathlib.Core.Bool.{Bool, true, false, cond}
 use mathlib.Core.Logic.{_⊎_}
 use lib.Dec.{T, ltb}
@@ -12,15 +12,16 @@ use Rattle.mathematics.specs.Graph.{isPath}
 use Rattle.mathematics.specs.Cover.{Item, Weighted, total, totalWeight, paths}
 use Rattle.mathematics.specs.Range.{OneOf}
 use Rattle.mathematics.proofs.Loads.{sumOver}
-use Rattle.mathematics.proofs.Links.{AtEnds, passes, opens}
+use Rattle.mathematics.proofs.Links.{AtEnds, passes, opens, pathOf}
 use Rattle.checker.specs.Bytes.{tabulate}
 use Rattle.checker.specs.GraphForm.{vertexCount}
 use Rattle.checker.specs.GraphOf.{graphOf}
+use Rattle.checker.specs.GraphReads.{Reads}
 use Rattle.checker.specs.ReadTable.{Leaves}
 use Rattle.checker.specs.AnswerFaults.{listBefore}
 use Rattle.builder.specs.declared.collect.Spot.{Spot}
-use Rattle.builder.specs.Network.{at, sumTo, leaving, entering}
-use Rattle.builder.specs.Slots.{preparedOf, plainSlots, allSlots, openingSlot, closingSlot, linkAt, inUse, edgeFrom, edgeTo}
+use Rattle.builder.specs.Network.{at, sumTo, leaving, entering, Chained}
+use Rattle.builder.specs.Slots.{preparedOf, plainSlots, allSlots, openingSlot, closingSlot, readingSlot, linkAt, inUse, edgeFrom, edgeTo}
 
 -- the path in row i of the table of collected paths, and with its weight
 abbrev pub pathAt : List (List ℕ) → List ℕ → ℕ → List ℕ
@@ -161,3 +162,42 @@ pub record Peeled (s : List ℕ) (load : List ℕ) (W : List Weighted) : Type 0 
   pub at-ends : All (λ w. AtEnds (λ v. 1 ≤ at load (openingSlot s v)) (λ v. 1 ≤ at load (closingSlot s v)) (w .path)) W
   pub held : (r : ℕ) → r < length (preparedOf s) → T (someHolds (paths W) (getD (preparedOf s) r []))
   pub few : length W ≤ allSlots s
+
+-- What taking paths off asks of its arrays: a form that reads, its edges chained by where they come from, the table of its prepared reads.
+pub record Ready (s : List ℕ) (vertices plain edges : ℕ) (from head next : List ℕ) (rows : List (List ℕ)) (lens : List ℕ) : Type 0 where
+  pub reads : Reads s
+  pub held : ReadsHeld s vertices plain rows lens
+  pub edges-right : edges ≡ allSlots s
+  pub chained : Chained (2 * vertices + 1) edges from head next
+
+-- how many of the first E edges carry something
+abbrev pub loadedIn : ℕ → List ℕ → ℕ
+loadedIn E load = sumTo E (λ e. min 1 (at load e))
+
+-- what the edges open: as many copies as they carry
+abbrev pub opensAt : List ℕ → ℕ → ℕ
+opensAt s e = opens (linkAt s e)
+
+-- One walk is taken off: its edges, the amount, the loads after it and the table of collected paths, which held W before.
+pub record PeeledOne (s from to load after : List ℕ) (W : List Weighted) (count : ℕ) (rows : List (List ℕ)) (lens weights : List ℕ) (r : ℕ) : Type 0 where
+  pub ws : List ℕ
+  pub amount : ℕ
+  pub winds : Winds from to 0 ws
+  pub carries : All (λ e. (e < allSlots s) × (amount ≤ at load e)) ws
+  pub some : 1 ≤ amount
+  pub empties : (e : ℕ) × OneOf ws e × (at load e ≡ amount)
+  pub taken : TakenOff (allSlots s) load ws amount after
+  pub kept : Collected (record { weight = amount; path = pathOf (map (linkAt s) ws) }) W count rows lens weights r
+
+-- Part of the loads is taken off, as the weighted paths W, count of them; load is what is left.
+pub record Peeling (s from to first load : List ℕ) (W : List Weighted) (count : ℕ) : Type 0 where
+  pub long : length load ≡ 464
+  pub goes : GoesRound s (2 * vertexCount s + 1) from to load
+  pub below : (e : ℕ) → e < allSlots s → at load e ≤ at first e
+  pub are-paths : All (λ w. T (isPath (graphOf s) (w .path))) W
+  pub weights : All (λ w. 1 ≤ w .weight) W
+  pub at-ends : All (λ w. AtEnds (λ v. 1 ≤ at first (openingSlot s v)) (λ v. 1 ≤ at first (closingSlot s v)) (w .path)) W
+  pub totals : (i : Item) → total i W + worthOf s load (λ e. passes i (linkAt s e)) ≡ worthOf s first (λ e. passes i (linkAt s e))
+  pub copies : totalWeight W + worthOf s load (opensAt s) ≡ worthOf s first (opensAt s)
+  pub held : (r : ℕ) → r < length (preparedOf s) → (1 ≤ at load (readingSlot s r)) ⊎ T (someHolds (paths W) (getD (preparedOf s) r []))
+  pub few : count + loadedIn (allSlots s) load ≤ allSlots s
