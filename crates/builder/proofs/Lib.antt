@@ -5,3 +5,4 @@ pub mod PeelLawsTable
 pub mod PeelLawsLinks
 pub mod PeelLawsPath
 pub mod PeelLawsAll
+pub mod PeelLawsOne

@@ -139,7 +139,7 @@ once-or-more e [] m = absurd m
 once-or-more e (w ∷ ws) (inl q) = omega (arith, subst (λ (x : ℕ). share e x 1 ≡ 1) q (share-here e 1))
 once-or-more e (w ∷ ws) (inr m) = omega (arith, once-or-more e ws m)
 
-sum-map : {A B : Type 0} (g : B → ℕ) (f : A → B) (xs : List A) → sumOver g (map f xs) ≡ sumOver (λ x. g (f x)) xs
+pub sum-map : {A B : Type 0} (g : B → ℕ) (f : A → B) (xs : List A) → sumOver g (map f xs) ≡ sumOver (λ x. g (f x)) xs
 sum-map g f [] = refl
 sum-map g f (x ∷ xs) = omega (arith, sum-map g f xs)
 

@@ -6,8 +6,9 @@ ghost use lib.ListN.{length, take, getD};
 ghost use Rattle.mathematics.specs.Lists.{All};
 ghost use Rattle.mathematics.proofs.Links.{linkVertices, pathOf};
 ghost use Rattle.builder.specs.Network.{at, Chained};
-ghost use Rattle.builder.specs.Slots.{allSlots, linkAt};
-ghost use Rattle.builder.specs.Peel.{RowFits, ReadsHeld, Written, Circles, NextLoaded, Walked, TakenOff};
+ghost use Rattle.checker.specs.GraphForm.{vertexCount};
+ghost use Rattle.builder.specs.Slots.{preparedOf, allSlots, readingSlot, linkAt};
+ghost use Rattle.builder.specs.Peel.{collected, RowFits, PathTable, ReadsHeld, Written, GoesRound, worthOf, Circles, NextLoaded, Walked, TakenOff, Ready, opensAt, PeeledOne, Peeled};
 
 // A walk's number of edges, and the least load on them.
 struct Trip {
@@ -161,4 +162,43 @@ fn path_of(
         k += 1;
     }
     r
+}
+
+// Takes one walk off the loads, from the root's edge `first` on, and collects its path.
+fn peel_one(
+    s: &[u8],
+    vertices: usize,
+    plain: usize,
+    edges: usize,
+    from: &[usize; 464],
+    to: &[usize; 464],
+    head: &[usize; 129],
+    next: &[usize; 464],
+    rows: &[[u8; 64]; 16],
+    lens: &[usize; 16],
+    first: usize,
+    load: &mut [u64; 464],
+    way: &mut [usize; 129],
+    row: &mut [u8; 64],
+    paths: &mut [[u8; 64]; 464],
+    sizes: &mut [usize; 464],
+    weights: &mut [u64; 464],
+    count: usize,
+) -> usize
+    requires ready { ⌜ Ready (now s) vertices plain edges (now from) (now head) (now next) (now rows) (now lens) ⌝ }
+    requires goes { ⌜ GoesRound (now s) (2 * vertexCount (now s) + 1) (now from) (now to) (now load) ⌝ }
+    requires begins { ⌜ NextLoaded edges (now from) (now load) 0 (first + 1) ⌝ }
+    requires sized { ⌜ (length (now load) ≡ 464) × (length (now way) ≡ 129) × (length (now row) ≡ 64) ⌝ }
+    requires table { ⌜ PathTable (now paths) (now sizes) (now weights) count ⌝ }
+    requires room { ⌜ (count < 464) × ((k : ℕ) → k < count → at (now weights) k + worthOf (now s) (now load) (opensAt (now s)) ≤ 1000000000000) ⌝ }
+    ensures one { λ r. ⌜ PeeledOne (now (s .entry)) (now (from .entry)) (now (to .entry)) (now (load .entry)) (now (load .exit)) (collected (now (paths .entry)) (now (sizes .entry)) (now (weights .entry)) count) count (now (paths .exit)) (now (sizes .exit)) (now (weights .exit)) r ⌝ }
+    ensures sized { λ r. ⌜ (length (now (way .exit)) ≡ 129) × (length (now (row .exit)) ≡ 64) ⌝ }
+{
+    let nodes = 2 * vertices + 1;
+    let trip = walk(nodes, edges, from, to, head, next, load, first, way);
+    let len = trip.len;
+    let amount = trip.amount;
+    let size = path_of(s, vertices, plain, rows, lens, way, len, row);
+    take_off(edges, from, to, way, len, amount, load);
+    crate::collect::insert(row, size, amount, paths, sizes, weights, count)
 }
