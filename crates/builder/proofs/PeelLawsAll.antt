@@ -203,7 +203,7 @@ module _ (s : List ℕ) (reads : Reads s) (from to first load : List ℕ) (W : L
   copies-less = worth-less opens 1 (is-whole .opened) ∙ ap (λ (m : ℕ). worthOf s after (opensAt s) + m) (mul-one (one .amount))
 
   -- one edge is emptied
-  loaded-less : loadedIn (allSlots s) after < loadedIn (allSlots s) load
+  pub loaded-less : loadedIn (allSlots s) after < loadedIn (allSlots s) load
   loaded-less =
       let (e, m, q) = one .empties in
       let c = all-among _ (one .ws) e (one .carries) m in
@@ -323,3 +323,26 @@ peel-start s from to load rows lens weights l g h =
       held = λ r b. inl (h r b);
       few = omega (arith, loaded-few (allSlots s) load);
     }
+
+-- one weight is no more than all
+weight-part : (rows : List (List ℕ)) (lens weights : List ℕ) (n first k : ℕ) → first ≤ k → k < first + n →
+    at weights k ≤ totalWeight (tabulate (collectedAt rows lens weights) n first)
+weight-part rows lens weights zero first k a b = absurd (omega arith)
+weight-part rows lens weights (suc n) first k a b =
+    ⊎-elim (λ q. rw q (omega arith)) (λ m. omega (arith, weight-part rows lens weights n (suc first) k (omega arith) (omega arith))) (same-or-not k first)
+
+-- there is room for one path more, and for its weight
+pub step-room : (s from to first load : List ℕ) (rows : List (List ℕ)) (lens weights : List ℕ) (count e : ℕ) → allSlots s ≤ 464 →
+    worthOf s first (opensAt s) ≤ 320000016 → Peeling s from to first load (collected rows lens weights count) count → e < allSlots s → 1 ≤ at load e →
+    (count < 464) × ((k : ℕ) → k < count → at weights k + worthOf s load (opensAt s) ≤ 1000000000000)
+unfolding collected
+step-room s from to first load rows lens weights count e small low p b l = (
+  omega (arith, p .few, sum-part (allSlots s) (λ j. min 1 (at load j)) e b),
+  λ k h. omega (arith, p .copies, weight-part rows lens weights count 0 k (omega arith) (omega arith)),
+)
+
+-- between two walks: the root's next loaded edge is h - 1, and what is collected stands in the table
+pub record Between (s : List ℕ) (edges : ℕ) (from to first load : List ℕ) (rows : List (List ℕ)) (lens weights : List ℕ) (count h : ℕ) : Type 0 where
+  pub next : NextLoaded edges from load 0 h
+  pub peeling : Peeling s from to first load (collected rows lens weights count) count
+  pub table : PathTable rows lens weights count

@@ -202,3 +202,59 @@ fn peel_one(
     take_off(edges, from, to, way, len, amount, load);
     crate::collect::insert(row, size, amount, paths, sizes, weights, count)
 }
+
+// Takes walks off the loads until the root sends nothing. Gives how many paths are collected.
+pub fn peel_all(
+    s: &[u8],
+    vertices: usize,
+    plain: usize,
+    edges: usize,
+    from: &[usize; 464],
+    to: &[usize; 464],
+    head: &[usize; 129],
+    next: &[usize; 464],
+    rows: &[[u8; 64]; 16],
+    lens: &[usize; 16],
+    load: &mut [u64; 464],
+    paths: &mut [[u8; 64]; 464],
+    sizes: &mut [usize; 464],
+    weights: &mut [u64; 464],
+) -> usize
+    requires ready { ⌜ Ready (now s) vertices plain edges (now from) (now head) (now next) (now rows) (now lens) ⌝ }
+    requires goes { ⌜ GoesRound (now s) (2 * vertexCount (now s) + 1) (now from) (now to) (now load) ⌝ }
+    requires carries { ⌜ ((r : ℕ) → r < length (preparedOf (now s)) → 1 ≤ at (now load) (readingSlot (now s) r)) ⌝ }
+    requires low { ⌜ worthOf (now s) (now load) (opensAt (now s)) ≤ 320000016 ⌝ }
+    requires sized { ⌜ (length (now load) ≡ 464) × (length (now paths) ≡ 464) × (length (now sizes) ≡ 464) × (length (now weights) ≡ 464) ⌝ }
+    ensures peeled { λ r. ⌜ Peeled (now (s .entry)) (now (load .entry)) (collected (now (paths .exit)) (now (sizes .exit)) (now (weights .exit)) r) ⌝ }
+    ensures table { λ r. ⌜ PathTable (now (paths .exit)) (now (sizes .exit)) (now (weights .exit)) r ⌝ }
+{
+    let nodes = 2 * vertices + 1;
+    let mut way = [0usize; 129];
+    let mut row = [0u8; 64];
+    let mut count: usize = 0;
+    let mut h = next_loaded(nodes, edges, from, head, next, load, 0);
+    while h > 0 {
+        count = peel_one(
+            s,
+            vertices,
+            plain,
+            edges,
+            from,
+            to,
+            head,
+            next,
+            rows,
+            lens,
+            h - 1,
+            load,
+            &mut way,
+            &mut row,
+            paths,
+            sizes,
+            weights,
+            count,
+        );
+        h = next_loaded(nodes, edges, from, head, next, load, 0);
+    }
+    count
+}
