@@ -2,14 +2,14 @@
 -- after a walk is taken off.
 use Prim.Native.Nat.{ℕ, zero, suc, _+_, _*_, _-_, _≤_, _<_}
 use native.Mathlib.Omega.{arith}
-use native.Mathlib.Nat.{mul-add, add-mul, mul-zero, mul-one, zero-mul}
+use native.Mathlib.Nat.{mul-add, add-mul, mul-zero, mul-one}
 use native.Mathlib.Numerals.{add-one}
 use mathlib.Core.Path.{_≡_, refl, sym, ap, subst, _∙_}
 use mathlib.Core.List.{List, [], _∷_, _++_}
-use mathlib.Core.Bool.{Bool, true, false, cond}
+use mathlib.Core.Bool.{Bool, cond}
 use mathlib.Core.Logic.{_⊎_, inl, inr, ⊎-elim, _≢_}
-use lib.Dec.{T, eqb, eqb→eq, eqb-refl}
-use lib.ListN.{length, getD, set, take, drop, length-set, length-take}
+use lib.Dec.{eqb, eqb→eq, eqb-refl}
+use lib.ListN.{length, set, take, drop, length-set}
 use lib.Seq.{getD-set-same, getD-set-other, take-take, getD-take, split-at, append-snoc, take-suc, take-suc-set, length-take-le}
 use Rattle.mathematics.specs.Lists.{All}
 use Rattle.mathematics.specs.Range.{OneOf}
@@ -82,7 +82,7 @@ sum-part zero f e b = absurd (omega arith)
 sum-part (suc E) f e b = ⊎-elim (λ q. rw q (omega arith)) (λ n. omega (arith, sum-part E f e (omega arith))) (same-or-not e E)
 
 -- a sum of which one part is k less
-pub sum-one-less : (E : ℕ) (f g : ℕ → ℕ) (e k : ℕ) → e < E → f e ≡ g e + k → ((j : ℕ) → j ≢ e → f j ≡ g j) → sumTo E f ≡ sumTo E g + k
+sum-one-less : (E : ℕ) (f g : ℕ → ℕ) (e k : ℕ) → e < E → f e ≡ g e + k → ((j : ℕ) → j ≢ e → f j ≡ g j) → sumTo E f ≡ sumTo E g + k
 sum-one-less zero f g e k b p q = absurd (omega arith)
 sum-one-less (suc E) f g e k b p q =
     ⊎-elim
@@ -114,7 +114,7 @@ shares-part E key load u e b k =
 abbrev pub only : ℕ → ℕ → ℕ
 only e j = share e j 1
 
-pub worth-only : (E : ℕ) (load : List ℕ) (e : ℕ) → e < E → worthTo E load (only e) ≡ at load e
+worth-only : (E : ℕ) (load : List ℕ) (e : ℕ) → e < E → worthTo E load (only e) ≡ at load e
 worth-only E load e b =
     sum-one-less E (λ j. at load j * only e j) (λ j. 0) e (at load e) b (rw (share-here, mul-one) (omega arith))
     (λ j n. rw (share-there e j 1 (λ q. n (sym q)), mul-zero) refl) ∙

@@ -4,20 +4,18 @@ use Prim.Native.Nat.{ℕ, zero, suc, _+_, _*_, _-_, _≤_, _<_, min}
 use native.Mathlib.Omega.{arith}
 use native.Mathlib.Nat.{add-mul, mul-one, mul-zero, zero-mul, mul-suc}
 use native.Mathlib.Numerals.{add-one}
-use mathlib.Core.Path.{_≡_, refl, sym, ap, ap₂, subst, subst₂, _∙_}
+use mathlib.Core.Path.{_≡_, refl, sym, ap, subst, _∙_}
 use mathlib.Core.List.{List, [], _∷_, _++_, map}
-use mathlib.Core.Bool.{Bool, true, false, cond, _||_}
-use mathlib.Core.Logic.{_⊎_, inl, inr, ⊎-elim, _≢_}
-use lib.Dec.{T, ltb, eqb}
-use lib.ListN.{length, getD, take}
+use mathlib.Core.Logic.{_⊎_, inl, inr, ⊎-elim}
+use lib.Dec.{T}
+use lib.ListN.{length, getD}
 use Rattle.mathematics.specs.Lists.{All, holds, someHolds}
-use Rattle.mathematics.specs.Graph.{isPath}
 use Rattle.mathematics.specs.Cover.{Item, Weighted, through, total, totalWeight, paths}
 use Rattle.mathematics.specs.Range.{OneOf}
 use Rattle.mathematics.proofs.Basics.{all-append, all-left, all-right, all-weaken, all-among, among-map, or-cases, or-l, or-r}
 use Rattle.mathematics.proofs.Parts.{held-some}
 use Rattle.mathematics.proofs.Loads.{sumOver}
-use Rattle.mathematics.proofs.Links.{Link, reading, AtEnds, passes, opens, pathOf, reading-within, IsWhole}
+use Rattle.mathematics.proofs.Links.{Link, reading, passes, opens, pathOf, reading-within, IsWhole}
 use Rattle.checker.specs.Bytes.{tabulate}
 use Rattle.checker.specs.GraphForm.{vertexCount}
 use Rattle.checker.specs.GraphOf.{graphOf}
@@ -26,7 +24,7 @@ use Rattle.checker.specs.AnswerFaults.{listBefore}
 use Rattle.checker.proofs.GraphFacts.{length-tabulate, graph-well-formed}
 use Rattle.builder.specs.Network.{at, sumTo, share, leaving, entering}
 use Rattle.builder.specs.Slots.{preparedOf, plainSlots, allSlots, openingSlot, closingSlot, readingSlot, linkAt}
-use Rattle.builder.specs.Peel.{pathAt, collectedAt, collected, Ascend, PathTable, Inserted, fresh, added, GoesRound, worthTo, worthOf, Circles, NextLoaded, Winds, TakenOff, Peeled, loadedIn, opensAt, PeeledOne, Peeling}
+use Rattle.builder.specs.Peel.{collectedAt, collected, Ascend, PathTable, Inserted, fresh, added, GoesRound, worthTo, worthOf, Circles, NextLoaded, Winds, Peeled, loadedIn, opensAt, PeeledOne, Peeling}
 use Rattle.builder.proofs.NetworkLaws.{same-or-not, below-or-not}
 use Rattle.builder.proofs.PeelLaws.{sum-same, sum-nothing, sum-part, share-here, share-there, only, taken-at, shares-nothing, shares-part}
 use Rattle.builder.proofs.PeelLawsLinks.{circles, whole, link-read}

@@ -3,21 +3,19 @@
 use Prim.Native.Nat.{ℕ, zero, suc, _+_, _*_, _-_, _≤_, _<_}
 use native.Mathlib.Omega.{arith}
 use mathlib.Core.Path.{_≡_, refl, sym, ap, subst, _∙_}
-use mathlib.Core.List.{List, [], _∷_, _++_, map}
-use mathlib.Core.Bool.{Bool, true, false, cond, _&&_}
-use mathlib.Core.Logic.{_⊎_, inl, inr, ⊎-elim, _≢_}
+use mathlib.Core.List.{List, [], _∷_, map}
+use mathlib.Core.Bool.{Bool, cond}
+use mathlib.Core.Logic.{_⊎_, inl, inr, ⊎-elim}
 use lib.Dec.{T, ltb, ltb→lt, lt→ltb}
-use lib.ListN.{length, getD, take}
-use lib.IntN.{ℤ}
-use Rattle.mathematics.specs.Lists.{All, lastOf}
-use Rattle.mathematics.specs.Graph.{isStart, isEnd, isPath, linked, hasArc, Rises, WellFormed}
+use lib.ListN.{length, getD}
+use Rattle.mathematics.specs.Lists.{All}
+use Rattle.mathematics.specs.Graph.{isStart, isEnd, isPath, linked, hasArc, Rises}
 use Rattle.mathematics.specs.Reach.{useful}
 use Rattle.mathematics.specs.Range.{OneOf}
-use Rattle.mathematics.proofs.Basics.{is-true, is-false, and-l, and-r, all-weaken}
+use Rattle.mathematics.proofs.Basics.{is-true, is-false, and-l}
 use Rattle.mathematics.proofs.Reach.{linked-first, linked-rest, arc-joins, arc-rises, start-below, path-start, path-linked}
 use Rattle.mathematics.proofs.Prepared.{prepared-linked, prepared-fewer}
-use Rattle.mathematics.proofs.Loads.{sumOver}
-use Rattle.mathematics.proofs.Links.{Link, opening, closing, inside, across, reading, inNode, outNode, linkFrom, linkTo, linkVertices, pathOf, OfGraph, Used, Leads, IsWhole, whole-walk, link-rises}
+use Rattle.mathematics.proofs.Links.{Link, opening, closing, inside, across, reading, inNode, linkFrom, linkTo, OfGraph, Used, Leads, IsWhole, whole-walk, link-rises}
 use Rattle.checker.specs.Bytes.{tabulate}
 use Rattle.checker.specs.GraphForm.{vertexCount, arcCount, arcAt, arcTail, arcHead}
 use Rattle.checker.specs.GraphOf.{graphOf, vertexOf, arcOf}

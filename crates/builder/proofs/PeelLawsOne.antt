@@ -8,7 +8,6 @@ use lib.ListN.{length, take}
 use Rattle.mathematics.specs.Lists.{All}
 use Rattle.mathematics.specs.Cover.{Weighted}
 use Rattle.mathematics.proofs.Basics.{all-weaken}
-use Rattle.mathematics.proofs.Loads.{sumOver}
 use Rattle.mathematics.proofs.Links.{opens, pathOf, IsWhole}
 use Rattle.checker.specs.GraphForm.{vertexCount}
 use Rattle.checker.specs.GraphOf.{graphOf}

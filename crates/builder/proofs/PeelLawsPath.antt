@@ -1,22 +1,19 @@
 -- Laws of writing a walk's path into a row, over plain lists.
-use Prim.Native.Nat.{ℕ, zero, suc, _+_, _-_, _≤_, _<_}
+use Prim.Native.Nat.{ℕ, suc, _+_, _-_, _≤_, _<_}
 use native.Mathlib.Omega.{arith}
 use native.Mathlib.Numerals.{add-one}
-use mathlib.Core.Path.{_≡_, refl, sym, ap, ap₂, subst, _∙_}
+use mathlib.Core.Path.{_≡_, refl, sym, ap, subst, _∙_}
 use mathlib.Core.List.{List, [], _∷_, _++_, map, append-assoc, append-nil}
-use mathlib.Core.Logic.{_⊎_, inl, inr, ⊎-elim}
 use lib.ListN.{length, getD, set, take, drop, length-set, length-append, take-append-drop}
 use lib.Seq.{take-suc, take-suc-set, take-take, getD-take, length-take-le}
 use Rattle.mathematics.specs.Lists.{All}
-use Rattle.mathematics.proofs.Basics.{all-right, all-left}
-use Rattle.mathematics.proofs.Links.{Link, opening, closing, inside, across, reading, linkVertices, pathOf}
-use Rattle.checker.specs.GraphForm.{vertexCount}
-use Rattle.checker.specs.ReadTable.{rowAt, rowsOf, RowHolds}
+use Rattle.mathematics.proofs.Links.{Link, inside, linkVertices, pathOf}
+use Rattle.checker.specs.ReadTable.{rowAt, RowHolds}
 use Rattle.checker.proofs.TableLaws.{at-all}
 use Rattle.checker.proofs.TableRows.{table-get, table-row}
 use Rattle.builder.specs.Network.{at}
-use Rattle.builder.specs.Slots.{preparedOf, plainSlots, allSlots, readingSlot, linkAt}
-use Rattle.builder.specs.Peel.{RowFits, ReadsHeld, Written}
+use Rattle.builder.specs.Slots.{preparedOf, allSlots, linkAt}
+use Rattle.builder.specs.Peel.{ReadsHeld, Written}
 use Rattle.builder.proofs.PeelLawsLinks.{Stands, vertex, join, start, stop, read, stands}
 
 -- copying number by number

@@ -4,15 +4,14 @@ use native.Mathlib.Omega.{arith}
 use native.Mathlib.Numerals.{add-one}
 use mathlib.Core.Path.{_≡_, refl, sym, ap, ap₂, subst, subst₂, _∙_}
 use mathlib.Core.List.{List, [], _∷_, _++_}
-use mathlib.Core.Bool.{Bool, true, false, cond, _&&_, _||_}
-use mathlib.Core.Logic.{_⊎_, inl, inr, ⊎-elim, _≢_}
+use mathlib.Core.Bool.{Bool, true, false, cond}
+use mathlib.Core.Logic.{⊎-elim, _≢_}
 use lib.Dec.{T, ltb, eqb, ltb→lt, lt→ltb, eqb-refl}
 use lib.ListN.{length, getD, set, take, drop, length-set, drop-of-length-le}
 use lib.Seq.{getD-set-same, getD-set-other, getD-take, drop-cons, length-take-le}
 use Rattle.mathematics.proofs.Basics.{is-true, is-false, or-l, or-r, and-in}
 use Rattle.checker.specs.AnswerFaults.{listBefore}
 use Rattle.builder.specs.Network.{at}
-use Rattle.builder.specs.declared.collect.Spot.{Spot}
 use Rattle.mathematics.specs.Cover.{Weighted}
 use Rattle.checker.specs.Bytes.{tabulate}
 use Rattle.builder.specs.Peel.{pathAt, collectedAt, collected, orderOf, RowFits, PathTable, Spotted, Shifted, Belongs, Inserted, fresh, added, Collected}
@@ -36,7 +35,7 @@ order-rest x y p q h k =
     ap (λ (b : Bool). cond b 2 (orderOf p q)) (is-false (ltb y x) (λ t. let l = ltb→lt y x t in omega arith))
 
 -- what the order of two lists says
-pub order-zero : (p q : List ℕ) → orderOf p q ≡ 0 → T (listBefore p q)
+order-zero : (p q : List ℕ) → orderOf p q ≡ 0 → T (listBefore p q)
 unfolding orderOf
 order-zero [] [] e = absurd (omega arith)
 order-zero [] (y ∷ q) e = tt
@@ -49,7 +48,7 @@ order-zero (x ∷ p) (y ∷ q) e =
     (and-in (eqb x y) _ (let i : x ≡ y = omega arith in subst (λ (z : ℕ). T (eqb x z)) i (eqb-refl x)) (order-zero p q (sym (order-rest x y p q h k) ∙ e))))
     (below-or-not y x)) (below-or-not x y)
 
-pub order-two : (p q : List ℕ) → orderOf p q ≡ 2 → T (listBefore q p)
+order-two : (p q : List ℕ) → orderOf p q ≡ 2 → T (listBefore q p)
 unfolding orderOf
 order-two [] [] e = absurd (omega arith)
 order-two [] (y ∷ q) e = absurd (omega arith)
@@ -62,7 +61,7 @@ order-two (x ∷ p) (y ∷ q) e =
     (and-in (eqb y x) _ (let i : y ≡ x = omega arith in subst (λ (z : ℕ). T (eqb y z)) i (eqb-refl y)) (order-two p q (sym (order-rest x y p q h k) ∙ e))))
     (below-or-not y x)) (below-or-not x y)
 
-pub order-one : (p q : List ℕ) → orderOf p q ≡ 1 → p ≡ q
+order-one : (p q : List ℕ) → orderOf p q ≡ 1 → p ≡ q
 unfolding orderOf
 order-one [] [] e = refl
 order-one [] (y ∷ q) e = absurd (omega arith)
@@ -183,7 +182,7 @@ module _ {A : Type 0} where
   tab-split f (suc a) b (suc n) first mid p q =
       ap (λ (xs : List A). f first ∷ xs) (tab-split f a b n (suc first) mid (omega arith) (omega arith))
 
-  pub tab-same : (f g : ℕ → A) (n first : ℕ) → ((k : ℕ) → first ≤ k → k < first + n → f k ≡ g k) → tabulate f n first ≡ tabulate g n first
+  tab-same : (f g : ℕ → A) (n first : ℕ) → ((k : ℕ) → first ≤ k → k < first + n → f k ≡ g k) → tabulate f n first ≡ tabulate g n first
   tab-same f g zero first h = refl
   tab-same f g (suc n) first h = ap₂ _∷_ (h first (omega arith) (omega arith)) (tab-same f g n (suc first) (λ k a b. h k (omega arith) (omega arith)))
 

@@ -1,9 +1,9 @@
 -- Taking paths off the loads: what the table of collected paths stands for, and what it has to hold once all loads are taken off. Private functions cite
 -- these; no public promise does.
-use Prim.Native.Nat.{ℕ, zero, suc, _+_, _*_, _-_, _≤_, _<_, min}
+use Prim.Native.Nat.{ℕ, _+_, _*_, _-_, _≤_, _<_, min}
 use mathlib.Core.Path.{_≡_}
 use mathlib.Core.List.{List, [], _∷_, _++_, map}
-use mathlib.Core.Bool.{Bool, true, false, cond}
+use mathlib.Core.Bool.{true, false, cond}
 use mathlib.Core.Logic.{_⊎_}
 use lib.Dec.{T, ltb}
 use lib.ListN.{length, getD, take}
@@ -107,7 +107,7 @@ pub record Written (before : List ℕ) (r : ℕ) (vs row : List ℕ) (end : ℕ)
   pub end-right : end ≡ r + length vs
   pub stand : take end row ≡ take r before ++ vs
 
--- Loads on the links of the form s that go round: as much comes into each node as goes out, only links in use carry something, each prepared read one unit.
+-- Loads on the links of the form s that go round: as much comes into each node as goes out, and only links in use carry something.
 pub record GoesRound (s : List ℕ) (N : ℕ) (from to load : List ℕ) : Type 0 where
   pub from-right : (e : ℕ) → e < allSlots s → at from e ≡ edgeFrom s e
   pub to-right : (e : ℕ) → e < allSlots s → at to e ≡ edgeTo s e

@@ -1,8 +1,8 @@
 // The table of collected paths: strictly ascending, each with its weight. Walks come out nearly in order, so a new path is looked for from the end.
 ghost use mathlib.Core.Path.{_≡_};
-ghost use mathlib.Core.List.{List, []};
-ghost use Prim.Native.Nat.{ℕ, _+_, _-_, _*_, _<_, _≤_};
-ghost use lib.ListN.{length, take, getD};
+ghost use mathlib.Core.List.{[]};
+ghost use Prim.Native.Nat.{ℕ, _+_, _-_, _<_, _≤_};
+ghost use lib.ListN.{take, getD};
 ghost use Rattle.builder.specs.Network.{at};
 ghost use Rattle.builder.specs.Peel.{pathAt, collected, orderOf, RowFits, PathTable, Spotted, Shifted, Belongs, Collected};
 

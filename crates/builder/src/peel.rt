@@ -1,7 +1,7 @@
 // Taking weighted paths off the loads: walks from the root back to the root along loaded edges, each with the least load on it.
 ghost use mathlib.Core.Path.{_≡_};
 ghost use Prim.Native.Nat.{ℕ, _+_, _*_, _<_, _≤_};
-ghost use mathlib.Core.List.{List, [], map};
+ghost use mathlib.Core.List.{[], map};
 ghost use lib.ListN.{length, take, getD};
 ghost use Rattle.mathematics.specs.Lists.{All};
 ghost use Rattle.mathematics.proofs.Links.{linkVertices, pathOf};

@@ -1,14 +1,11 @@
 -- `builder::collect::find` meets its contract. Assumes nothing.
-use Prim.Native.Nat.{ℕ, _+_, _≤_, _<_, _-_}
+use Prim.Native.Nat.{_<_, _-_}
 use native.Mathlib.Omega.{arith}
 use lib.ListN.{take}
 use Rattle.builder.proofs.PeelLawsTable.{Seeking, seek-same, seek-after, seek-turn, seek-end}
 use borrow.Author.Needs.{needs}
 use Rattle.builder.proofs.collect.find.Statement.{statement}
 use Rattle.builder.proofs.collect.find.Tie as tie
-use Rattle.builder.proofs.collect.find.Reads as reads
-use Rattle.builder.proofs.collect.find.Lts as lts
-use Rattle.builder.proofs.collect.order.Reads as order-reads
 
 abbrev Inv-loop : tie.InvT-loop
 Inv-loop row len paths sizes weights count i₀ i = Seeking paths sizes count (take len row) i

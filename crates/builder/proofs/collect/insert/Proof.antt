@@ -1,15 +1,11 @@
 -- `builder::collect::insert` meets its contract. Assumes nothing.
-use Prim.Native.Nat.{ℕ, _+_, _≤_, _<_, _-_}
+use Prim.Native.Nat.{ℕ, _<_}
 use native.Mathlib.Omega.{arith}
 use Rattle.builder.proofs.PeelLawsTable.{grown-collected}
 use borrow.Author.Needs.{needs}
 use borrow.Author.Needs.{needs}
 use Rattle.builder.proofs.collect.insert.Statement.{statement}
 use Rattle.builder.proofs.collect.insert.Tie as tie
-use Rattle.builder.proofs.collect.insert.Reads as reads
-use Rattle.builder.proofs.collect.insert.Lts as lts
-use Rattle.builder.proofs.collect.find.Reads as find-reads
-use Rattle.builder.proofs.collect.put.Reads as put-reads
 
 find-requires : tie.Need-find-requires
 find-requires c κs = search needs

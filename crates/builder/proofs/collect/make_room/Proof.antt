@@ -1,5 +1,5 @@
 -- `builder::collect::make_room` meets its contract. Assumes nothing.
-use Prim.Native.Nat.{ℕ, _+_, _≤_, _<_, _-_}
+use Prim.Native.Nat.{_≤_}
 use native.Mathlib.Omega.{arith}
 use mathlib.Core.Path.{_≡_}
 use mathlib.Core.List.{[]}
@@ -8,8 +8,6 @@ use Rattle.builder.proofs.PeelLawsTable.{shift-none, shift-turn}
 use borrow.Author.Needs.{needs}
 use Rattle.builder.proofs.collect.make_room.Statement.{statement}
 use Rattle.builder.proofs.collect.make_room.Tie as tie
-use Rattle.builder.proofs.collect.make_room.Reads as reads
-use Rattle.builder.proofs.collect.make_room.Lts as lts
 
 abbrev Inv-loop : tie.InvT-loop
 Inv-loop paths₀ sizes₀ weights₀ count i j₀ paths sizes weights j =

@@ -1,6 +1,5 @@
 -- `builder::collect::order` meets its contract. Assumes nothing.
-use Prim.Native.Nat.{ℕ, _+_, _≤_, _<_, _-_}
-use native.Mathlib.Omega.{arith}
+use Prim.Native.Nat.{_≤_, _-_}
 use mathlib.Core.Path.{_≡_, refl}
 use lib.ListN.{take, drop}
 use Rattle.builder.specs.Network.{at}
@@ -9,8 +8,6 @@ use Rattle.builder.proofs.PeelLawsTable.{order-short, order-before, ord
 use borrow.Author.Needs.{needs}
 use Rattle.builder.proofs.collect.order.Statement.{statement}
 use Rattle.builder.proofs.collect.order.Tie as tie
-use Rattle.builder.proofs.collect.order.Reads as reads
-use Rattle.builder.proofs.collect.order.Lts as lts
 
 abbrev Inv-loop : tie.InvT-loop
 Inv-loop row len paths sizes i size k₀ k =

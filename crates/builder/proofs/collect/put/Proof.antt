@@ -4,9 +4,6 @@ use borrow.Author.Needs.{needs}
 use borrow.Author.Needs.{needs}
 use Rattle.builder.proofs.collect.put.Statement.{statement}
 use Rattle.builder.proofs.collect.put.Tie as tie
-use Rattle.builder.proofs.collect.put.Reads as reads
-use Rattle.builder.proofs.collect.put.Lts as lts
-use Rattle.builder.proofs.collect.make_room.Reads as make-room-reads
 
 make-room-requires : tie.Need-make-room-requires
 make-room-requires c κs = search needs

@@ -1,5 +1,5 @@
 -- `builder::peel::copy_read` meets its contract. Assumes nothing.
-use Prim.Native.Nat.{ℕ, _+_, _≤_, _<_, _-_}
+use Prim.Native.Nat.{_+_, _≤_, _-_}
 use native.Mathlib.Omega.{arith}
 use mathlib.Core.Path.{_≡_}
 use mathlib.Core.List.{[]}
@@ -9,8 +9,6 @@ use Rattle.builder.proofs.PeelLawsPath.{copy-none, copy-turn}
 use borrow.Author.Needs.{needs}
 use Rattle.builder.proofs.peel.copy_read.Statement.{statement}
 use Rattle.builder.proofs.peel.copy_read.Tie as tie
-use Rattle.builder.proofs.peel.copy_read.Reads as reads
-use Rattle.builder.proofs.peel.copy_read.Lts as lts
 
 abbrev Inv-loop : tie.InvT-loop
 Inv-loop rows i size row₀ r k₀ row k = (k ≤ size) × Written row₀ r (take k (getD rows i [])) row (r + k)

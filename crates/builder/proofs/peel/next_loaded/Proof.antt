@@ -5,8 +5,6 @@ use Rattle.builder.proofs.PeelLaws.{Looking, look-first, look-on, look-
 use borrow.Author.Needs.{needs}
 use Rattle.builder.proofs.peel.next_loaded.Statement.{statement}
 use Rattle.builder.proofs.peel.next_loaded.Tie as tie
-use Rattle.builder.proofs.peel.next_loaded.Reads as reads
-use Rattle.builder.proofs.peel.next_loaded.Lts as lts
 
 abbrev Inv-loop : tie.InvT-loop
 Inv-loop nodes edges from head next load u h₀ h = Looking edges from load u h

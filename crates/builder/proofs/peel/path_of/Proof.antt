@@ -1,16 +1,12 @@
 -- `builder::peel::path_of` meets its contract. Assumes nothing.
-use Prim.Native.Nat.{ℕ, _+_, _≤_, _<_, _-_}
+use Prim.Native.Nat.{_≤_, _<_, _-_}
 use native.Mathlib.Omega.{arith}
-use mathlib.Core.Path.{_≡_, refl, ap}
-use lib.ListN.{length, take}
+use mathlib.Core.Path.{_≡_, refl}
 use Rattle.builder.specs.Slots.{allSlots, linkAt}
 use Rattle.builder.proofs.PeelLawsPath.{Writing, way-edge, write-room, write-turn}
 use borrow.Author.Needs.{needs}
 use Rattle.builder.proofs.peel.path_of.Statement.{statement}
 use Rattle.builder.proofs.peel.path_of.Tie as tie
-use Rattle.builder.proofs.peel.path_of.Reads as reads
-use Rattle.builder.proofs.peel.path_of.Lts as lts
-use Rattle.builder.proofs.peel.put_link.Reads as put-link-reads
 
 abbrev Inv-loop : tie.InvT-loop
 Inv-loop s vertices plain rows lens way len row₀ r₀ k₀ row r k = (k ≤ len) × Writing (linkAt s) way row k r

@@ -1,9 +1,8 @@
 -- `builder::peel::peel_all` meets its contract. Assumes nothing.
-use Prim.Native.Nat.{ℕ, _+_, _≤_, _<_, _-_}
+use Prim.Native.Nat.{_<_}
 use native.Mathlib.Omega.{arith}
 use mathlib.Core.Path.{_≡_, refl, sym, subst}
 use lib.ListN.{length}
-use Rattle.builder.specs.Network.{at}
 use Rattle.builder.specs.Slots.{allSlots}
 use Rattle.builder.specs.Peel.{loadedIn}
 use Rattle.builder.proofs.PeelLaws.{next-edge}
@@ -13,10 +12,6 @@ use Rattle.builder.proofs.PeelLawsAll.{peel-step, loaded-less, peel-end
 use borrow.Author.Needs.{needs}
 use Rattle.builder.proofs.peel.peel_all.Statement.{statement}
 use Rattle.builder.proofs.peel.peel_all.Tie as tie
-use Rattle.builder.proofs.peel.peel_all.Reads as reads
-use Rattle.builder.proofs.peel.peel_all.Lts as lts
-use Rattle.builder.proofs.peel.next_loaded.Reads as next-loaded-reads
-use Rattle.builder.proofs.peel.peel_one.Reads as peel-one-reads
 
 abbrev Inv-loop : tie.InvT-loop
 Inv-loop s vertices plain edges from to head next rows lens load₀ paths₀ sizes₀ weights₀ nodes way₀ row₀ count₀ h₀ load paths sizes weights way row count h =

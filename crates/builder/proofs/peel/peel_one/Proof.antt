@@ -1,17 +1,8 @@
 -- `builder::peel::peel_one` meets its contract. Assumes nothing.
-use Prim.Native.Nat.{ℕ, _+_, _≤_, _<_, _-_}
 use native.Mathlib.Omega.{arith}
 use Rattle.builder.proofs.PeelLawsOne.{ready-sizes, ready-circles, walk-edges, walk-short, amount-low, one-taken}
-use borrow.Author.Needs.{needs}
-use borrow.Author.Needs.{needs}
 use Rattle.builder.proofs.peel.peel_one.Statement.{statement}
 use Rattle.builder.proofs.peel.peel_one.Tie as tie
-use Rattle.builder.proofs.peel.peel_one.Reads as reads
-use Rattle.builder.proofs.peel.peel_one.Lts as lts
-use Rattle.builder.proofs.collect.insert.Reads as insert-reads
-use Rattle.builder.proofs.peel.path_of.Reads as path-of-reads
-use Rattle.builder.proofs.peel.take_off.Reads as take-off-reads
-use Rattle.builder.proofs.peel.walk.Reads as walk-reads
 
 -- where the walk is made
 module _ (c : tie.After-walk) where

@@ -1,15 +1,10 @@
 -- `builder::peel::put_link` meets its contract. Assumes nothing.
-use Prim.Native.Nat.{ℕ, _+_, _≤_, _<_, _-_}
+use Prim.Native.Nat.{_<_, _-_}
 use native.Mathlib.Omega.{arith}
 use Rattle.checker.specs.ReadTable.{RowHolds}
 use Rattle.builder.proofs.PeelLawsPath.{vertex-room, read-holds, read-room, put-vertex, put-none, put-read}
-use borrow.Author.Needs.{needs}
-use borrow.Author.Needs.{needs}
 use Rattle.builder.proofs.peel.put_link.Statement.{statement}
 use Rattle.builder.proofs.peel.put_link.Tie as tie
-use Rattle.builder.proofs.peel.put_link.Reads as reads
-use Rattle.builder.proofs.peel.put_link.Lts as lts
-use Rattle.builder.proofs.peel.copy_read.Reads as copy-read-reads
 
 -- a vertex's edge: there is room for one vertex
 vertex-inside : (c : tie.Then1) → c .before .before .args .r < 64

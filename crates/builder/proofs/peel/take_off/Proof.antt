@@ -1,5 +1,5 @@
 -- `builder::peel::take_off` meets its contract. Assumes nothing.
-use Prim.Native.Nat.{ℕ, _≤_, _<_, _-_}
+use Prim.Native.Nat.{_≤_, _<_, _-_}
 use native.Mathlib.Omega.{arith}
 use mathlib.Core.Path.{_≡_}
 use lib.ListN.{take}
@@ -9,8 +9,6 @@ use Rattle.builder.proofs.PeelLaws.{taken-none, walk-carries, walk-fits
 use borrow.Author.Needs.{needs}
 use Rattle.builder.proofs.peel.take_off.Statement.{statement}
 use Rattle.builder.proofs.peel.take_off.Tie as tie
-use Rattle.builder.proofs.peel.take_off.Reads as reads
-use Rattle.builder.proofs.peel.take_off.Lts as lts
 
 abbrev Inv-loop : tie.InvT-loop
 Inv-loop edges from to way len amount load₀ k₀ load k = (k ≤ len) × TakenOff edges load₀ (take k way) amount load

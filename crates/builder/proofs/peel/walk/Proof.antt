@@ -1,7 +1,7 @@
 -- `builder::peel::walk` meets its contract. Assumes nothing.
-use Prim.Native.Nat.{ℕ, _+_, _≤_, _<_, _-_}
+use Prim.Native.Nat.{_+_, _≤_, _<_, _-_}
 use native.Mathlib.Omega.{arith}
-use mathlib.Core.Path.{_≡_, refl, _∙_, sym}
+use mathlib.Core.Path.{_≡_, refl}
 use mathlib.Core.Logic.{inl, inr, ⊎-elim}
 use lib.ListN.{length, take, length-set}
 use Rattle.builder.specs.Network.{at}
@@ -10,9 +10,6 @@ use Rattle.builder.proofs.PeelLaws.{next-edge, Going, way-on, going-sta
 use borrow.Author.Needs.{needs}
 use Rattle.builder.proofs.peel.walk.Statement.{statement}
 use Rattle.builder.proofs.peel.walk.Tie as tie
-use Rattle.builder.proofs.peel.walk.Reads as reads
-use Rattle.builder.proofs.peel.walk.Lts as lts
-use Rattle.builder.proofs.peel.next_loaded.Reads as next-loaded-reads
 
 abbrev Inv-loop : tie.InvT-loop
 Inv-loop nodes edges from to head next load first way₀ len₀ amount₀ u₀ way len amount u = (length way ≡ 129) × Going nodes edges from to load (take len way) len amount u
