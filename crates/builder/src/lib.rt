@@ -9,7 +9,11 @@ pub struct Built {
 
 // A bare network and the flow of lowest cost in it: it knows nothing of graphs and reads.
 mod network;
-
+// Which vertices lie on paths, and the first item that asks and does not.
+mod reach;
+// Weighted paths from the loads.
+mod peel;
+// The paths that are taken off, merged in order.
+mod collect;
 // What a build ends with: marks, price, and the answer form in the output.
 mod finish;
-mod reach;
