@@ -44,7 +44,7 @@ holding : (b : Bool) (after r : Verdict) → T b → cond b after r ≡ after
 holding true after r t = refl
 holding false after r t = absurd t
 
-fault-refused : (fault at : ℕ) (after : Verdict) → orElse fault at after .number ≡ 0 → (fault ≡ 0) × (after .number ≡ 0)
+pub fault-refused : (fault at : ℕ) (after : Verdict) → orElse fault at after .number ≡ 0 → (fault ≡ 0) × (after .number ≡ 0)
 fault-refused zero at after e = (refl, e)
 fault-refused (suc k) at after e = absurd (omega (arith, rw eqb·suc-zero at e))
 
@@ -82,7 +82,7 @@ header-tests false true false d after e = absurd (omega arith)
 header-tests false true true true after e = absurd (omega arith)
 header-tests false true true false after e = (tt, tt, tt, tt, e)
 
-header-read : (s t : List ℕ) (after : Verdict) → answerHeaderVerdict s t after .number ≡ 0 → HeaderRight s t × (after .number ≡ 0)
+pub header-read : (s t : List ℕ) (after : Verdict) → answerHeaderVerdict s t after .number ≡ 0 → HeaderRight s t × (after .number ≡ 0)
 unfolding answerHeaderVerdict
 header-read s t after e =
     let h =

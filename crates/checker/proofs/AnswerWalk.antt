@@ -88,7 +88,7 @@ module _ (s : List ℕ) (right : ArcsRight s) where
       go (no l) (no m) = omega arith
 
   -- of the arcs only arc k goes from u to v
-  only-arc : (u v k j : ℕ) → TheArc s u v k → j < arcCount s → sameItem (arcItem s j) (arc u v) ≡ eqb j k
+  pub only-arc : (u v k j : ℕ) → TheArc s u v k → j < arcCount s → sameItem (arcItem s j) (arc u v) ≡ eqb j k
   only-arc u v k j f h = go (ℕ-discrete j k)
     where
       go : Dec (j ≡ k) → sameItem (arcItem s j) (arc u v) ≡ eqb j k
@@ -102,7 +102,7 @@ module _ (s : List ℕ) (right : ArcsRight s) where
           other false y p q = rw p
 
 -- a total that grows by the weight, with c more to come
-grow : (l : List ℕ) (i w x c : ℕ) → i < length l → getD (set l i (getD l i 0 + w)) x 0 + w * c ≡ getD l x 0 + w * (oneIf (eqb x i) + c)
+pub grow : (l : List ℕ) (i w x c : ℕ) → i < length l → getD (set l i (getD l i 0 + w)) x 0 + w * c ≡ getD l x 0 + w * (oneIf (eqb x i) + c)
 grow l i w x c h = go (ℕ-discrete x i)
   where
     go : Dec (x ≡ i) → getD (set l i (getD l i 0 + w)) x 0 + w * c ≡ getD l x 0 + w * (oneIf (eqb x i) + c)
@@ -110,7 +110,7 @@ grow l i w x c h = go (ℕ-discrete x i)
     go (no e) = rw (getD-set-other l i x (getD l i 0 + w) 0 e, ne-eqb x i e, zero-add)
 
 -- an item is among the items at most as often as there are items
-count-few : (i : Item) (js : List Item) → countOf i js ≤ length js
+pub count-few : (i : Item) (js : List Item) → countOf i js ≤ length js
 count-few i [] = le-refl 0
 count-few i (j ∷ js) = go (sameItem i j) (count-few i js)
   where
@@ -124,7 +124,7 @@ cost-read s n k r reads e inside read =
     let same : r ≡ arcCost s (arcAt s k) = rw e at read in
     (same, omega (arith, reads .arcs .each k inside .low-cost))
 
-length-onward : (u : ℕ) (q : List ℕ) → length (onward u q) ≡ 2 * length q
+pub length-onward : (u : ℕ) (q : List ℕ) → length (onward u q) ≡ 2 * length q
 length-onward u [] = refl
 length-onward u (v ∷ q) = omega (arith, length-onward v q)
 
@@ -262,7 +262,7 @@ module _ {s t : List ℕ} {b lb from weight : ℕ} {vb vt ab at : List ℕ} {u c
         }
 
 -- A whole path: its first vertex is counted, and from there on the walk goes on.
-trail-onward : (u : ℕ) (q : List ℕ) → trail (u ∷ q) ≡ vert u ∷ onward u q
+pub trail-onward : (u : ℕ) (q : List ℕ) → trail (u ∷ q) ≡ vert u ∷ onward u q
 trail-onward u [] = refl
 trail-onward u (v ∷ q) = ap (λ (is : List Item). vert u ∷ arc u v ∷ is) (trail-onward v q)
 

@@ -67,15 +67,15 @@ module _ (s : List ℕ) (right : ArcsRight s) where
       distinct-tabulate (arcOf s) (λ (a : Arc ℤ). (a .tail, a .head)) (arcCount s) 0
       (λ j k h b e. ends-differ j k h (omega arith) (ap (λ (p : ℕ × ℕ). p .0) e) (ap (λ (p : ℕ × ℕ). p .1) e))
 
-read-length : (s : List ℕ) (at : ℕ) → ReadRight s at → length (readVertices s at) ≡ readLength s at
+pub read-length : (s : List ℕ) (at : ℕ) → ReadRight s at → length (readVertices s at) ≡ readLength s at
 unfolding part
 read-length s at r = simp (length-take, length-drop) (omega (arith, r .whole))
 
-all-reads : (s : List ℕ) (P : List ℕ → Type 0) → ((at : ℕ) → ReadRight s at → P (readVertices s at)) → (count at : ℕ) → ReadsRight s count at → All P (readsFrom s count at)
+pub all-reads : (s : List ℕ) (P : List ℕ → Type 0) → ((at : ℕ) → ReadRight s at → P (readVertices s at)) → (count at : ℕ) → ReadsRight s count at → All P (readsFrom s count at)
 all-reads s P h zero at r = tt
 all-reads s P h (suc count) at r = (h at (r .0), all-reads s P h count (readEnd s at) (r .1))
 
-length-reads : (s : List ℕ) (count at : ℕ) → length (readsFrom s count at) ≡ count
+pub length-reads : (s : List ℕ) (count at : ℕ) → length (readsFrom s count at) ≡ count
 length-reads s zero at = refl
 length-reads s (suc count) at = ap suc (length-reads s count (readEnd s at))
 

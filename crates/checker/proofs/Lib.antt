@@ -7,6 +7,17 @@ pub mod AnswerReads
 pub mod AnswerWalk
 pub mod AnswerPaths
 pub mod ArcLaws
+-- Laws that the proofs of functions cite.
+pub mod TableLaws
+pub mod OverlapLaws
+pub mod CertifyLawsBound
+pub mod CertifyLawsTotal
+pub mod CertifyLawsVerdict
+pub mod CertifyLawsCheck
+pub mod CertifyLawsCount
+pub mod CertifyLawsTable
+pub mod CertifyLawsSlack
+pub mod CertifyLaws
 pub mod WalkLaws
 pub mod ReadLaws
 pub mod RightLaws
@@ -15,8 +26,6 @@ pub mod GraphReads
 pub mod GraphFacts
 pub mod Lookup
 -- The laws of the table of reads.
-pub mod TableLaws
-pub mod OverlapLaws
 pub mod TableRows
 pub mod DropLaws
 pub mod LongestLaws
@@ -37,4 +46,3 @@ pub mod GraphRange
 pub mod Completeness
 pub mod HandedOut
 pub mod Determined
-pub mod CertifyLawsSlack

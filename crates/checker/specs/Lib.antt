@@ -3,12 +3,13 @@ pub mod Limits
 pub mod GraphForm
 pub mod GraphFaults
 pub mod GraphOf
-pub mod GraphReads
-pub mod ArcTable
-pub mod Empty
 pub mod AnswerForm
 pub mod AnswerFaults
 pub mod Check
+pub mod GraphReads
+pub mod ArcTable
+pub mod ReadTable
+pub mod Certify
+pub mod Empty
 pub mod Tallies
 pub mod Encode
-pub mod ReadTable

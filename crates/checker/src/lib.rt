@@ -2,6 +2,7 @@
 // The definitions that the contracts cite are in specs/, in document 01's words and order.
 pub mod answers;
 pub mod bytes;
+pub mod certify;
 pub mod reader;
 pub mod reads;
 

@@ -40,7 +40,7 @@ module _ {E : Type 0} where
       (linked-join arcs (w ∷ l) v r (linked-rest arcs u w (l ++ (v ∷ [])) h) k)
 
   -- numbers rise along arcs
-  linked-rising : (n : ℕ) (arcs : List (Arc E)) → All (Rises n) arcs → (p : List ℕ) → T (linked arcs p) → Rising p
+  pub linked-rising : (n : ℕ) (arcs : List (Arc E)) → All (Rises n) arcs → (p : List ℕ) → T (linked arcs p) → Rising p
   linked-rising n arcs up [] h = tt
   linked-rising n arcs up (v ∷ []) h = (tt, tt)
   linked-rising n arcs up (u ∷ v ∷ p) h =

@@ -1,5 +1,5 @@
 -- What `overlap` finds: the longest list that properly ends one read and properly begins another; and that a read cannot reach beyond the longest overlap.
-use Prim.Native.Nat.{ℕ, zero, suc, _-_, _≤_, min, zero-le}
+use Prim.Native.Nat.{ℕ, zero, suc, _+_, _-_, _≤_, _<_, min, zero-le}
 use native.Mathlib.Omega.{arith}
 use native.Mathlib.Nat.{eq-or-lt-of-le}
 use mathlib.Core.Path.{_≡_, refl, sym, ap, subst, subst₂, _∙_}
@@ -54,7 +54,7 @@ end-begins m o n =
     rw (before, drop-length) (begins-append o n)
 
 -- a list that properly ends one and properly begins the other is no longer than their overlap
-overlap-most : (m o n : List ℕ) → 1 ≤ length m → 1 ≤ length n → length o ≤ overlap (m ++ o) (o ++ n)
+pub overlap-most : (m o n : List ℕ) → 1 ≤ length m → 1 ≤ length n → length o ≤ overlap (m ++ o) (o ++ n)
 unfolding overlap
 overlap-most m [] n p q = zero-le
 overlap-most m (v ∷ o) n p q =
@@ -63,7 +63,7 @@ overlap-most m (v ∷ o) n p q =
     (omega (arith, length-append m (v ∷ o), length-append o n))
     (end-begins m (v ∷ o) n)
 
--- r is x ++ o and s is o ++ y, o as long as the overlap
+-- r is x ++ o and s is o ++ y, all three not empty, o as long as the overlap
 pub record Meet (r s : List ℕ) : Type 0 where
   pub x : List ℕ
   pub o : List ℕ
@@ -71,13 +71,25 @@ pub record Meet (r s : List ℕ) : Type 0 where
   pub ends : r ≡ x ++ o
   pub begin : s ≡ o ++ y
   pub size : length o ≡ overlap r s
+  pub some-x : 1 ≤ length x
+  pub some-y : 1 ≤ length y
 
-meet-at : (r s : List ℕ) (k : ℕ) → k ≤ min (length r) (length s) - 1 → k ≡ overlap r s → T (EndBegins k r s) → Meet r s
-meet-at r s k l e t =
-    let n : ℕ = length r - k in
-    let (y, f) = begins-rest (drop n r) s t in
-    let long : length (drop n r) ≡ k = omega (arith, length-drop n r) in
-    record { x = take n r; o = drop n r; y = y; ends = sym (take-append-drop n r); begin = f; size = long ∙ e }
+meet-at : (r s : List ℕ) (k : ℕ) → k ≤ min (length r) (length s) - 1 → 1 ≤ k → k ≡ overlap r s → T (EndBegins k r s) → Meet r s
+meet-at r s k l p e t =
+    let (y, f) = begins-rest (drop (length r - k) r) s t in
+    let at : ℕ = length r - k in
+    let lo : length (drop at r) ≡ k = omega (arith, length-drop at r) in
+    let split : length (take at r) + length (drop at r) ≡ length r = sym (length-append (take at r) (drop at r)) ∙ ap length (take-append-drop at r) in
+    record {
+      x = take (length r - k) r;
+      o = drop (length r - k) r;
+      y = y;
+      ends = sym (take-append-drop (length r - k) r);
+      begin = f;
+      size = lo ∙ e;
+      some-x = omega arith;
+      some-y = omega (arith, ap length f ∙ length-append (drop at r) y);
+    }
 
 -- "a proper suffix of read i equals a proper prefix of another read j, at least one vertex long"
 pub overlap-meets : (r s : List ℕ) → 1 ≤ overlap r s → Meet r s
@@ -85,7 +97,7 @@ unfolding overlap
 overlap-meets r s p =
     elim (upTo-found (min (length r) (length s) - 1) r s) [
       | inl e ↦ absurd (omega arith)
-      | inr h ↦ meet-at r s (overlap r s) (h .0) refl (h .1)
+      | inr h ↦ meet-at r s (overlap r s) (h .0) p refl (h .1)
     ]
 
 -- neither stands in the other
@@ -103,8 +115,7 @@ clear-most r s (x ∷ m) o (y ∷ n) e f h =
     subst₂ (λ (a b : List ℕ). length o ≤ overlap a b) (sym e) (sym f) (overlap-most (x ∷ m) o (y ∷ n) (omega arith) (omega arith))
 
 -- A list that reaches beyond o on both sides, where x stands before o: either x ++ o stands in it, or they overlap by more than o.
-pub none-across-left : (x o k a u before after : List ℕ) → a ++ x ≡ u ++ before → 1 ≤ length before → k ≡ before ++ (o ++ after) →
-    Clear (x ++ o) k → overlap (x ++ o) k ≤ length o → ⊥
+pub none-across-left : (x o k a u before after : List ℕ) → a ++ x ≡ u ++ before → 1 ≤ length before → k ≡ before ++ (o ++ after) → Clear (x ++ o) k → overlap (x ++ o) k ≤ length o → ⊥
 none-across-left x o k a u before after e p f c h = go (levi a x u before e)
   where
     go : Cuts a x u before → ⊥
@@ -113,8 +124,7 @@ none-across-left x o k a u before after e p f c h = go (levi a x u before e)
     go (inr (m, g, d)) = c .0 (m, after, f ∙ rw d (simp append-assoc))
 
 -- the same where y stands after o
-pub none-across-right : (y o k b w before after : List ℕ) → y ++ b ≡ after ++ w → 1 ≤ length after → k ≡ before ++ (o ++ after) →
-    Clear (o ++ y) k → overlap k (o ++ y) ≤ length o → ⊥
+pub none-across-right : (y o k b w before after : List ℕ) → y ++ b ≡ after ++ w → 1 ≤ length after → k ≡ before ++ (o ++ after) → Clear (o ++ y) k → overlap k (o ++ y) ≤ length o → ⊥
 none-across-right y o k b w before after e p f c h = go (levi y b after w e)
   where
     go : Cuts y b after w → ⊥
