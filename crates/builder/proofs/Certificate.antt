@@ -18,11 +18,11 @@ use Rattle.mathematics.specs.Graph.{Vertex, Arc, Graph, isStart, isEnd, isPath,
 use Rattle.mathematics.specs.Cover.{Item, vert, arc, Ask, vertexAsks, arcAsk, asks, Weighted, total, totalWeight, paths, costOf, IsCover, price}
 use Rattle.mathematics.specs.Bound.{Marks, readsThrough, rest, startSlack, endSlack, SlacksHold, bound, boundWith}
 use Rattle.mathematics.specs.Range.{OneOf}
-use Rattle.mathematics.specs.Reach.{fromStart, toEnd, useful}
+use Rattle.mathematics.specs.Reach.{fromStart, useful}
 use Rattle.mathematics.proofs.Basics.{and-l, and-r, and-in, all-among, all-from, all-weaken}
 use Rattle.mathematics.proofs.Algebra.{sumBy, le-of-sub, times-nil, sum-append, sum-equal, sum-nil}
 use Rattle.mathematics.proofs.PriceKinds.{whole-ordered}
-use Rattle.mathematics.proofs.Reach.{start-below, end-below, from-start-below, joining-arc, path-start, path-end}
+use Rattle.mathematics.proofs.Reach.{start-below, end-below, joining-arc, path-start, path-end}
 use Rattle.mathematics.proofs.Items.{cost-own, joins-own}
 use Rattle.mathematics.proofs.Prepared.{prepared-linked, prepared-fewer, prepared-cover-is-cover}
 use Rattle.mathematics.proofs.WithReads.{withReads, path-with-reads}
@@ -200,9 +200,6 @@ module _ (s : List ℕ) (right : Reads s) (mark added full : List ℕ) (S : Sett
       let (a, b, q) = FinishLawsSlots.arc-number s x o in
       (a, b, FinishLawsSlots.at-across s a b ∙ ap₂ across (ap (λ (y : Arc ℤ). y .tail) (sym q) ∙ d) (ap (λ (y : Arc ℤ). y .head) (sym q) ∙ e))
 
-  useful-below : (v : ℕ) → T (useful (graphOf s) v) → v < vertexCount s
-  useful-below v u = vertex-below v (from-start-below (graphOf s) g v (and-l (fromStart (graphOf s) v) (toEnd (graphOf s) v) u))
-
   low-below-opening : Le whole low (graphOf s .opening)
   unfolding graphOf
   low-below-opening = tt
@@ -219,7 +216,7 @@ module _ (s : List ℕ) (right : Reads s) (mark added full : List ℕ) (S : Sett
             let b = vertex-below v (end-below (graphOf s) v t) in
             edge-holds (closing v) (closingSlot s v) (omega arith) (FinishLawsSlots.at-closing s v b) (and-in (isEnd (graphOf s) v) (useful (graphOf s) v) t u);
         inside-holds = λ v u.
-            let b = useful-below v u in
+            let b = FinishLawsSlots.useful-below s right v u in
             edge-holds (inside v) (insideSlot s v) (omega arith) (FinishLawsSlots.at-inside s v b) u;
         across-holds = λ u v t x y.
             let (a, b, q) = across-used u v t in

@@ -15,14 +15,17 @@ use Rattle.mathematics.specs.Graph.{Vertex, Arc}
 use Rattle.mathematics.specs.Cover.{Item, vert, arc, sameItem, oneIf, through, Ask, vertexAsks, arcAsk, asks}
 use Rattle.mathematics.specs.Bound.{readsThrough, rest}
 use Rattle.mathematics.specs.Range.{OneOf}
-use Rattle.mathematics.proofs.Basics.{and-in, is-true, is-false, all-append, all-map}
+use Rattle.mathematics.specs.Reach.{fromStart, toEnd, useful}
+use Rattle.mathematics.proofs.Reach.{from-start-below}
+use Rattle.mathematics.proofs.Basics.{and-l, and-in, is-true, is-false, all-append, all-map}
 use Rattle.mathematics.proofs.Base.{same-item}
 use Rattle.mathematics.proofs.Links.{Link, opening, closing, inside, across, reading, passes, opens}
 use Rattle.checker.specs.Bytes.{tabulate}
 use Rattle.checker.specs.GraphForm.{vertexCount, arcCount, openingPrice, vertexDemand, arcAt, arcTail, arcHead, arcCost, arcDemand}
 use Rattle.checker.specs.GraphOf.{vertexOf, arcOf, graphOf}
-use Rattle.checker.specs.GraphReads.{ArcsRight}
-use Rattle.checker.proofs.GraphFacts.{all-tabulate, ends-differ}
+use Rattle.checker.specs.GraphReads.{ArcsRight, Reads}
+use Rattle.checker.proofs.GraphFacts.{all-tabulate, ends-differ, graph-well-formed}
+use Rattle.checker.proofs.GraphRange.{vertices-length}
 use Rattle.builder.specs.Network.{at, sumTo}
 use Rattle.builder.specs.Slots.{preparedOf, plainSlots, allSlots, insideSlot, acrossSlot, openingSlot, closingSlot, readingSlot, linkAt, inUse, edgeFrom, edgeTo, edgeCost, firstLoad}
 use Rattle.builder.specs.Finish.{arcItem, copiesOf}
@@ -63,6 +66,13 @@ sum-up k n f h = let e : k + (n - k) ≡ n = omega arith in omega (arith, sum-sp
 sum-reads : (i : Item) (rs : List (List ℕ)) → sumTo (length rs) (λ r. through i (getD rs r [])) ≡ readsThrough i rs
 sum-reads i [] = refl
 sum-reads i (r ∷ rs) = sum-front (length rs) (λ k. through i (getD (r ∷ rs) k [])) ∙ ap (λ n. through i r + n) (sum-reads i rs)
+
+pub first-or-later : (i j : ℕ) → i ≤ j → (i ≡ j) ⊎ (suc i ≤ j)
+first-or-later i j h = pick (same-or-not i j)
+  where
+    pick : (i ≡ j) ⊎ (i ≢ j) → (i ≡ j) ⊎ (suc i ≤ j)
+    pick (inl e) = inl e
+    pick (inr ne) = inr (omega arith)
 
 abbrev tailOf : Item → ℕ
 tailOf (vert v) = v
@@ -169,6 +179,10 @@ module _ (s : List ℕ) where
   unfolding firstLoad
   first-end e g h = rw (le-ltb e n (omega arith), le-ltb e (n + m) g, lt-ltb e (plainSlots s) h)
 
+  pub first-reading : (r : ℕ) → firstLoad s (readingSlot s r) ≡ 1
+  unfolding firstLoad
+  first-reading r = rw (le-ltb (readingSlot s r) n (omega arith), le-ltb (readingSlot s r) (n + m) (omega arith), le-ltb (readingSlot s r) (plainSlots s) (omega arith))
+
   -- ---- costs and arcs
 
   -- the cost of a link in use
@@ -201,6 +215,12 @@ module _ (s : List ℕ) where
       go zero i o = absurd o
       go (suc k) i (inl e) = (i, omega arith, e)
       go (suc k) i (inr o) = let (a, b, c) = go k (suc i) o in (a, omega arith, c)
+
+  -- a useful vertex is one of the form
+  pub useful-below : Reads s → (v : ℕ) → T (useful (graphOf s) v) → v < vertexCount s
+  useful-below right v u =
+      subst (λ k. v < k) (vertices-length s)
+      (from-start-below (graphOf s) (graph-well-formed s right) v (and-l (fromStart (graphOf s) v) (toEnd (graphOf s) v) u))
 
   -- ---- the slot of an item that asks
 

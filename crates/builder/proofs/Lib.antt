@@ -17,4 +17,6 @@ pub mod PeelLawsAll
 pub mod PeelLawsOne
 pub mod FinishLaws
 pub mod FinishLawsSlots
+pub mod FinishLawsFlow
 pub mod Certificate
+pub mod FinishLawsEnd

@@ -3,7 +3,8 @@
 use Prim.Native.Nat.{ℕ, zero, suc, _+_, _*_, _-_, _≤_, _<_}
 use mathlib.Core.Path.{_≡_}
 use mathlib.Core.List.{List, [], _∷_, _++_}
-use lib.Dec.{T}
+use mathlib.Core.Bool.{cond}
+use lib.Dec.{T, eqb}
 use lib.IntN.{ℤ, subℕ}
 use lib.ListN.{length, getD, take, drop}
 use Rattle.mathematics.specs.Bound.{readsThrough, Marks}
@@ -14,8 +15,11 @@ use Rattle.mathematics.proofs.Marked.{sideMark}
 use Rattle.checker.specs.GraphForm.{vertexCount, arcCount, openingPrice, arcAt, arcTail, arcHead, arcCost}
 use Rattle.checker.specs.GraphOf.{graphOf}
 use Rattle.checker.specs.GraphReads.{Reads}
+use Rattle.checker.specs.GraphFaults.{nothingRefused}
+use Rattle.checker.specs.Check.{checkVerdict}
 use Rattle.builder.specs.Network.{at, sumTo, base, reach}
 use Rattle.builder.specs.Slots.{preparedOf, plainSlots, acrossSlot, readingSlot, linkAt, inUse, edgeCost, firstLoad}
+use Rattle.builder.specs.Peel.{GoesRound}
 
 -- Marks of the nodes and loads added to the first ones, once all is carried: marks are near the root's, no slack of a link in use is below 0, a link with an
 -- added load is in use and has slack 0; `full` is what each link carries in all.
@@ -90,3 +94,26 @@ pub record Priced (s full arcReads : List ℕ) : Type 0 where
   pub low : priceFrom s full ≤ 1_000_000_000_000_000_000
   pub totals : (a : ℕ) → a < arcCount s → at full (acrossSlot s a) + readsThrough (arcItem s a) (preparedOf s) ≤ 1_000_000_000_000
   pub counted : (a : ℕ) → a < arcCount s → at arcReads a ≡ readsThrough (arcItem s a) (preparedOf s)
+
+-- What the flow adds to the first loads of the first `plain` edges: what it carries there, but nothing on a loop, which stands for a link that is not in use.
+pub record Added (plain : ℕ) (from to load first added full : List ℕ) : Type 0 where
+  pub long : length full ≡ 464
+  pub added-is : (e : ℕ) → e < plain → at added e ≡ cond (eqb (at from e) (at to e)) 0 (at load e)
+  pub full-is : (e : ℕ) → e < plain → at full e ≡ at first e + at added e
+  pub kept : (e : ℕ) → plain ≤ e → at full e ≡ at first e
+
+-- Marks and full loads once all is carried: settled, going round, and with no more copies opened than an answer may hold.
+pub record Flowed (s from to mark full : List ℕ) : Type 0 where
+  pub added : List ℕ
+  pub settled : Settled s mark added full
+  pub goes : GoesRound s (2 * vertexCount s + 1) from to full
+  pub few : copiesOf s full ≤ 320_000_016
+  pub low : (e : ℕ) → e < plainSlots s → at full e ≤ 400_000_000
+  pub long : length full ≡ 464
+
+-- An answer that the checker accepts stands in the first r bytes, and every other byte is as it was.
+pub record Answered (s before after : List ℕ) (r : ℕ) : Type 0 where
+  pub accepted : checkVerdict s (take r after) ≡ nothingRefused
+  pub fits : r ≤ length before
+  pub behind : drop r after ≡ drop r before
+  pub same-length : length after ≡ length before

@@ -71,7 +71,10 @@ fn reads_unmet(s: &[u8], met: &[bool; Graph::MAX_READS]) -> Verdict
     let mut r = 0;
     while r < count {
         if !met[r] {
-            return Verdict::new(19, wide(s[Graph::AT_VERTICES]) + be16(s, Graph::AT_ARCS) + r);
+            return Verdict::new(
+                19,
+                wide(s[Graph::AT_VERTICES]) + be16(s, Graph::AT_ARCS) + r,
+            );
         }
         r += 1;
     }
@@ -146,7 +149,10 @@ fn arc_slack_fault(s: &[u8], t: &[u8], n: usize, a: usize) -> usize
     ensures { λ r. ⌜ r ≡ arcSlackFault (now (s .entry)) (now (t .entry)) a ⌝ }
 {
     let at = Graph::HEADER + Graph::VERTEX * n + Graph::ARC * a;
-    let out = mark_plus(t, Answer::HEADER + Answer::MARKS * wide(s[at]) + Answer::MARK);
+    let out = mark_plus(
+        t,
+        Answer::HEADER + Answer::MARKS * wide(s[at]) + Answer::MARK,
+    );
     let into = mark_plus(t, Answer::HEADER + Answer::MARKS * wide(s[at + 1]));
     if be32(s, at + 2) + out < into {
         return 21;
@@ -204,7 +210,9 @@ pub fn load_reads(s: &[u8], rows: &mut [[u8; 64]; 16], lens: &mut [usize; 16]) -
     ensures { λ r. ⌜ Leaves (now (rows .exit)) (now (lens .exit)) r (graphOf (now (s .entry)) .reads) ⌝ }
 {
     let count = wide(s[Graph::AT_READS]);
-    let mut at = Graph::HEADER + Graph::VERTEX * wide(s[Graph::AT_VERTICES]) + Graph::ARC * be16(s, Graph::AT_ARCS);
+    let mut at = Graph::HEADER
+        + Graph::VERTEX * wide(s[Graph::AT_VERTICES])
+        + Graph::ARC * be16(s, Graph::AT_ARCS);
     let mut i = 0;
     while i < count {
         let len = wide(s[at]);
@@ -218,7 +226,13 @@ pub fn load_reads(s: &[u8], rows: &mut [[u8; 64]; 16], lens: &mut [usize; 16]) -
 }
 
 // Counts the arc from u to v once more, where there is one.
-fn count_arc(s: &[u8], first: &[u16; Graph::MAX_VERTICES + 1], u: usize, v: usize, arc_reads: &mut [usize; Graph::MAX_ARCS])
+fn count_arc(
+    s: &[u8],
+    first: &[u16; Graph::MAX_VERTICES + 1],
+    u: usize,
+    v: usize,
+    arc_reads: &mut [usize; Graph::MAX_ARCS],
+)
     requires { ⌜ ArcTable (now s) (now first) × (u < maxVertices) × (length (now «arc_reads») ≡ maxArcs) ⌝ }
     requires { ⌜ ((a : ℕ) → a < arcCount (now s) → getD (now «arc_reads») a 0 ≤ 20000) ⌝ }
     ensures { λ r. ⌜ ArcPassed (now (s .entry)) u v (now («arc_reads» .entry)) (now («arc_reads» .exit)) ⌝ }
@@ -305,7 +319,10 @@ fn arc_part(s: &[u8], t: &[u8], n: usize, a: usize, reads: usize) -> usize
     ensures { λ r. ⌜ Part (arcPart (now (s .entry)) (now (t .entry)) a reads) r ⌝ }
 {
     let at = Graph::HEADER + Graph::VERTEX * n + Graph::ARC * a;
-    let out = mark_plus(t, Answer::HEADER + Answer::MARKS * wide(s[at]) + Answer::MARK);
+    let out = mark_plus(
+        t,
+        Answer::HEADER + Answer::MARKS * wide(s[at]) + Answer::MARK,
+    );
     let into = mark_plus(t, Answer::HEADER + Answer::MARKS * wide(s[at + 1]));
     greater(be32(s, at + 6), reads) * (be32(s, at + 2) + out - into)
 }
