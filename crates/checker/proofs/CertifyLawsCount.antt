@@ -20,7 +20,7 @@ use Rattle.checker.specs.GraphForm.{arcCount, arcAt, arcTail, arcHead}
 use Rattle.checker.specs.GraphOf.{arcsOf}
 use Rattle.checker.specs.GraphReads.{ArcsRight}
 use Rattle.checker.specs.ArcTable.{arcNumber}
-use Rattle.checker.specs.Tallies.{arcItem, onward, Grown}
+use Rattle.checker.specs.Tallies.{arcItem, onward, Grown, NothingTallied}
 use Rattle.checker.specs.ReadTable.{rowAt, rowsOf, ReadHolds, RowHolds, TableHolds}
 use Rattle.checker.specs.Certify.{CountsLow, ArcPassed, Counted}
 use Rattle.checker.proofs.AnswerWalk.{found-arc, only-arc, grow, count-few, trail-onward, length-onward}
@@ -213,17 +213,30 @@ module _ {s vr ar : List ℕ} {rows : List (List ℕ)} {lens : List ℕ} {count 
       none : drop i (rowsOf rows lens count) ≡ []
       none = drop-of-length-le (rowsOf rows lens count) {i = i} (omega (arith, table-length rows lens count t))
 
+-- an array as it is made holds one value everywhere
+same-at : {A : Type 0} (a : A) (n k : ℕ) → getD (replicate n a) k a ≡ a
+same-at a zero k = refl
+same-at a (suc n) zero = refl
+same-at a (suc n) (suc k) = same-at a n k
+
 -- counts that are 0 everywhere
 pub counts-none : {s : List ℕ} → CountsLow s (replicate 64 0) (replicate 256 0) 0
-counts-none {s} =
+counts-none =
     record {
       vertices-long = length-replicate {A = ℕ} 64 0;
       arcs-long = length-replicate {A = ℕ} 256 0;
-      vertices = λ v h. le-of-eq (zero-at 64 v);
-      arcs = λ a h. le-of-eq (zero-at 256 a);
+      vertices = λ v h. le-of-eq (same-at {A = ℕ} 0 64 v);
+      arcs = λ a h. le-of-eq (same-at {A = ℕ} 0 256 a);
     }
-  where
-    zero-at : (n k : ℕ) → getD {A = ℕ} (replicate n 0) k 0 ≡ 0
-    zero-at zero k = refl
-    zero-at (suc n) zero = refl
-    zero-at (suc n) (suc k) = zero-at n k
+
+-- nothing is tallied in arrays as they are made
+pub nothing-tallied : NothingTallied (replicate 64 0) (replicate 256 0) (replicate 16 false)
+nothing-tallied =
+    record {
+      vertices-long = length-replicate {A = ℕ} 64 0;
+      arcs-long = length-replicate {A = ℕ} 256 0;
+      reads-long = length-replicate 16 false;
+      vertices = same-at {A = ℕ} 0 64;
+      arcs = same-at {A = ℕ} 0 256;
+      reads = same-at false 16;
+    }

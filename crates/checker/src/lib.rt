@@ -3,6 +3,7 @@
 pub mod answers;
 pub mod bytes;
 pub mod certify;
+pub mod check;
 pub mod reader;
 pub mod reads;
 

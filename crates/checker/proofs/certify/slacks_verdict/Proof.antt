@@ -5,25 +5,17 @@ use borrow.Author.Needs.{needs}
 use borrow.Author.Needs.{needs}
 use Rattle.checker.proofs.certify.slacks_verdict.Statement.{statement}
 use Rattle.checker.proofs.certify.slacks_verdict.Tie as tie
-use Rattle.checker.proofs.certify.slacks_verdict.Reads as reads
-use Rattle.checker.proofs.certify.slacks_verdict.Lts as lts
-use Rattle.checker.proofs.certify.arc_slacks.Reads as arc-slacks-reads
-use Rattle.checker.proofs.certify.vertex_slacks.Reads as vertex-slacks-reads
 
--- src/certify.rt:180:9
 vertex-slacks-requires : tie.Need-vertex-slacks-requires
 vertex-slacks-requires c κs = search needs
 
--- src/certify.rt:182:9
 returns : tie.Need-returns
 unfolding slacksVerdict
 returns c = then-refused _ (c .before .before .vertex-slacks .ensures) (search needs)
 
--- src/certify.rt:184:5
 arc-slacks-requires : tie.Need-arc-slacks-requires
 arc-slacks-requires c κs = search needs
 
--- src/certify.rt:176:1
 returns-2 : tie.Need-returns-2
 unfolding slacksVerdict
 returns-2 c = then-passed (c .before .before .before .vertex-slacks .ensures) (search needs) (c .arc-slacks .ensures)

@@ -5,35 +5,24 @@ use borrow.Author.Needs.{needs}
 use borrow.Author.Needs.{needs}
 use Rattle.checker.proofs.certify.unmet_verdict.Statement.{statement}
 use Rattle.checker.proofs.certify.unmet_verdict.Tie as tie
-use Rattle.checker.proofs.certify.unmet_verdict.Reads as reads
-use Rattle.checker.proofs.certify.unmet_verdict.Lts as lts
-use Rattle.checker.proofs.certify.arcs_unmet.Reads as arcs-unmet-reads
-use Rattle.checker.proofs.certify.reads_unmet.Reads as reads-unmet-reads
-use Rattle.checker.proofs.certify.vertices_unmet.Reads as vertices-unmet-reads
 
--- src/certify.rt:91:9
 vertices-unmet-requires : tie.Need-vertices-unmet-requires
 vertices-unmet-requires c κs = search needs
 
--- src/certify.rt:93:9
 returns : tie.Need-returns
 unfolding unmetVerdict
 returns c = then-refused _ (c .before .before .vertices-unmet .ensures) (search needs)
 
--- src/certify.rt:95:9
 arcs-unmet-requires : tie.Need-arcs-unmet-requires
 arcs-unmet-requires c κs = search needs
 
--- src/certify.rt:97:9
 returns-2 : tie.Need-returns-2
 unfolding unmetVerdict
 returns-2 c = then-passed (c .before .before .before .before .before .vertices-unmet .ensures) (search needs) (then-refused _ (c .before .before .arcs-unmet .ensures) (search needs))
 
--- src/certify.rt:99:5
 reads-unmet-requires : tie.Need-reads-unmet-requires
 reads-unmet-requires c κs = search needs
 
--- src/certify.rt:82:1
 returns-3 : tie.Need-returns-3
 unfolding unmetVerdict
 returns-3 c = then-passed (c .before .before .before .before .before .before .vertices-unmet .ensures) (search needs) (then-passed (c .before .before .before .arcs-unmet .ensures) (search needs) (c .reads-unmet .ensures))

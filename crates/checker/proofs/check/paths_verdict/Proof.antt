@@ -1,0 +1,38 @@
+-- `checker::check::paths_verdict` reads the paths, and where nothing is refused of them tests the certificate.
+use mathlib.Core.Path.{sym, _∙_}
+use Rattle.checker.proofs.AnswerLaws.{paths-then}
+use Rattle.checker.proofs.ThenLaws.{then-refused, then-passed}
+use Rattle.checker.proofs.CertifyLawsCount.{nothing-tallied}
+use borrow.Author.Needs.{needs}
+use borrow.Author.Needs.{needs}
+use Rattle.checker.proofs.check.paths_verdict.Statement.{statement}
+use Rattle.checker.proofs.check.paths_verdict.Tie as tie
+
+first-arcs-requires : tie.Need-first-arcs-requires
+first-arcs-requires c κs = search needs
+
+read-paths-requires : tie.Need-read-paths-requires
+read-paths-requires c κs = ((c .before .before .before .before .before .before .before .pre .0, c .before .before .before .before .first-arcs .ensures, c .before .before .before .before .before .before .before .pre .1 .long), nothing-tallied)
+
+new-requires : tie.Need-new-requires
+new-requires c κs = search needs
+
+returns : tie.Need-returns
+returns c = c .new .ensures ∙ (then-refused _ (c .before .before .before .read-paths .ensures .verdict) (c .before .if1 .taken) ∙ sym (paths-then _ _ _ _ _ _ _))
+
+certificate-verdict-requires : tie.Need-certificate-verdict-requires
+certificate-verdict-requires c κs = ((c .before .before .before .before .before .before .before .before .before .before .before .before .before .before .pre .0, c .before .before .before .before .before .before .before .before .before .before .before .first-arcs .ensures, c .before .before .before .before .before .before .before .before .before .before .before .before .before .before .pre .1), c .before .before .before .before .before .before .read-paths .ensures .tallied (c .before .before .before .before .if1 .left))
+
+returns-2 : tie.Need-returns-2
+returns-2 c = then-passed (c .before .before .before .before .before .before .before .read-paths .ensures .verdict) (c .before .before .before .before .before .if1 .left) (c .certificate-verdict .ensures) ∙ sym (paths-then _ _ _ _ _ _ _)
+
+pub paths-verdict-spec : {M : Type 1} → statement M
+paths-verdict-spec =
+    tie.close
+    (tie.spec
+    first-arcs-requires
+    read-paths-requires
+    new-requires
+    returns
+    certificate-verdict-requires
+    returns-2)

@@ -1,0 +1,113 @@
+// The check of an answer against a graph, and the hand-out of a path that passed it.
+use crate::Answer;
+use crate::Graph;
+use crate::Verdict;
+use crate::answers::header_verdict;
+use crate::answers::marks_verdict;
+use crate::answers::read_paths;
+use crate::bytes::be16;
+use crate::bytes::be32;
+use crate::bytes::wide;
+use crate::certify::bound_of;
+use crate::certify::slacks_verdict;
+use crate::certify::unmet_verdict;
+use crate::reader::first_arcs;
+use crate::reader::read_graph;
+ghost use mathlib.Core.Path.{_≡_};
+ghost use mathlib.Core.List.{[]};
+ghost use Prim.Native.Nat.{_≤_, _<_};
+ghost use lib.ListN.{length};
+ghost use lib.IntN.{pos};
+ghost use Rattle.mathematics.specs.Price.{whole};
+ghost use Rattle.checker.specs.GraphForm.{vertexCount};
+ghost use Rattle.checker.specs.GraphOf.{graphOf};
+ghost use Rattle.checker.specs.GraphReads.{Reads};
+ghost use Rattle.checker.specs.ArcTable.{ArcTable};
+ghost use Rattle.checker.specs.AnswerForm.{statedPrice, pathCount, marksOf, firstPathAt, coverOf};
+ghost use Rattle.checker.specs.AnswerFaults.{pathsVerdict};
+ghost use Rattle.checker.specs.Tallies.{Tallied};
+ghost use Rattle.checker.specs.Certify.{MarksStand};
+ghost use Rattle.checker.specs.Check.{certificateVerdict, answerVerdict, checkVerdict, handOutVerdict, handedOut};
+
+// The price that an answer states.
+fn stated_price(t: &[u8]) -> usize
+    requires { ⌜ 15 ≤ length (now t) ⌝ }
+    ensures { λ r. ⌜ r ≡ statedPrice (now (t .entry)) ⌝ }
+{
+    be32(t, 7) * 4_294_967_296 + be32(t, 11)
+}
+
+// Numbers 19 to 22, in that order, of paths that are tallied.
+fn certificate_verdict(
+    s: &[u8],
+    first: &[u16; Graph::MAX_VERTICES + 1],
+    t: &[u8],
+    vertex_totals: &[usize; Graph::MAX_VERTICES],
+    arc_totals: &[usize; Graph::MAX_ARCS],
+    met: &[bool; Graph::MAX_READS],
+    price: usize,
+) -> Verdict
+    requires { ⌜ Reads (now s) × ArcTable (now s) (now first) × MarksStand (vertexCount (now s)) (now t) ⌝ }
+    requires { ⌜ Tallied (now s) (now t) (now «vertex_totals») (now «arc_totals») (now met) price ⌝ }
+    ensures { λ r. ⌜ r ≡ certificateVerdict whole (graphOf (now (s .entry))) (coverOf (vertexCount (now (s .entry))) (now (t .entry))) (pos (statedPrice (now (t .entry)))) (marksOf (now (t .entry))) ⌝ }
+{
+    let unmet = unmet_verdict(s, vertex_totals, arc_totals, met);
+    if unmet.number != 0 {
+        return unmet;
+    }
+    let stated = stated_price(t);
+    if price != stated {
+        return Verdict::new(20, 0);
+    }
+    let slacks = slacks_verdict(s, t);
+    if slacks.number != 0 {
+        return slacks;
+    }
+    if bound_of(s, first, t) != stated {
+        return Verdict::new(22, 0);
+    }
+    Verdict::new(0, 0)
+}
+
+// Numbers 15 to 22: the paths are read and tallied in one pass, then the certificate is tested.
+fn paths_verdict(s: &[u8], t: &[u8]) -> Verdict
+    requires { ⌜ Reads (now s) × MarksStand (vertexCount (now s)) (now t) ⌝ }
+    ensures { λ r. ⌜ r ≡ pathsVerdict (now (s .entry)) (now (t .entry)) (pathCount (now (t .entry))) (firstPathAt (vertexCount (now (s .entry)))) [] 0 (certificateVerdict whole (graphOf (now (s .entry))) (coverOf (vertexCount (now (s .entry))) (now (t .entry))) (pos (statedPrice (now (t .entry)))) (marksOf (now (t .entry)))) ⌝ }
+{
+    let first = first_arcs(s);
+    let mut vertex_totals = [0usize; Graph::MAX_VERTICES];
+    let mut arc_totals = [0usize; Graph::MAX_ARCS];
+    let mut met = [false; Graph::MAX_READS];
+    let tally = read_paths(s, &first, t, &mut vertex_totals, &mut arc_totals, &mut met);
+    if tally.number != 0 {
+        return Verdict::new(tally.number, tally.place);
+    }
+    certificate_verdict(s, &first, t, &vertex_totals, &arc_totals, &met, tally.price)
+}
+
+// Numbers 11 to 22, beside a graph form that reads.
+fn answer_verdict(s: &[u8], t: &[u8]) -> Verdict
+    requires { ⌜ Reads (now s) ⌝ }
+    ensures { λ r. ⌜ r ≡ answerVerdict (now (s .entry)) (now (t .entry)) ⌝ }
+{
+    let header = header_verdict(s, t);
+    if header.number != 0 {
+        return header;
+    }
+    let marks = marks_verdict(t, wide(s[Graph::AT_VERTICES]));
+    if marks.number != 0 {
+        return marks;
+    }
+    paths_verdict(s, t)
+}
+
+// Whether the answer's paths are a cover of the graph at the stated price and no cover is cheaper: number and place of the first refusal, or 0 and 0.
+pub fn check(graph: &[u8], answer: &[u8]) -> Verdict
+    ensures { λ r. ⌜ r ≡ checkVerdict (now (graph .entry)) (now (answer .entry)) ⌝ }
+{
+    let read = read_graph(graph);
+    if read.number != 0 {
+        return read;
+    }
+    answer_verdict(graph, answer)
+}
