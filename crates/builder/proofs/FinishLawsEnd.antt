@@ -77,7 +77,7 @@ module _ (s : List ℕ) (right : Reads s) where
 
   module _ (from to mark full : List ℕ) (fl : Flowed s from to mark full) where
     total-low : (a : ℕ) → a < arcCount s → at full (acrossSlot s a) + readsThrough (arcItem s a) (preparedOf s) ≤ 1_000_000_000
-    total-low a h = omega (arith, fl .low (acrossSlot s a) (omega arith), reads-through (arcItem s a))
+    total-low a h = omega (arith, fl .loaded .low (acrossSlot s a) (omega arith), reads-through (arcItem s a))
 
     worth-low : (a : ℕ) → a < arcCount s → arcWorth s full a ≤ 1_000_000_000_000_000
     worth-low a h =
@@ -92,7 +92,7 @@ module _ (s : List ℕ) (right : Reads s) where
     unfolding priceFrom
     price-low =
         let h = right .arcs .header in
-        let k = mul-le-mul (fl .few) (h .low-opening) in
+        let k = mul-le-mul (fl .loaded .few) (h .low-opening) in
         omega (arith, sum-low (arcCount s) (omega arith), h .few-arcs)
 
     -- the price can be reckoned
@@ -100,7 +100,7 @@ module _ (s : List ℕ) (right : Reads s) where
     priced arcReads counts =
         record {
           reads = right;
-          few = fl .few;
+          few = fl .loaded .few;
           low = price-low;
           totals = λ a h. omega (arith, total-low a h);
           counted = counts .each;
@@ -166,7 +166,7 @@ pub answered : (s before after mark full : List ℕ) (from to : List ℕ) (into 
     Placed before 0 (encodeAnswer n price (heldMarks (at into) (at out)) W) after → r ≡ length (encodeAnswer n price (heldMarks (at into) (at out)) W) → Answered s before after r
 answered s before after mark full from to into out W n price r reads en fl taken M ep P er =
     record {
-      accepted = ap (checkVerdict s) (ap (λ k. take k after) er ∙ (t .0 ∙ same)) ∙ certificate-accepted s reads mark (fl .added) full (fl .settled) W taken (fl .few);
+      accepted = ap (checkVerdict s) (ap (λ k. take k after) er ∙ (t .0 ∙ same)) ∙ certificate-accepted s reads mark (fl .added) full (fl .settled) W taken (fl .loaded .few);
       fits = omega (arith, P .room);
       behind = ap (λ k. drop k after) er ∙ (t .1 ∙ sym (ap (λ k. drop k before) er));
       same-length = placed-length before after 0 _ P;

@@ -250,10 +250,7 @@ module _ (s : List ℕ) (right : Reads s) (from to cost first load mark added fu
       record {
         added = added;
         settled = settled;
-        goes = goes;
-        few = copies-few;
-        low = λ e h. low e h (below-or-not 0 (at added e));
-        long = A .long;
+        loaded = record { goes = goes; reads = settled .reads; few = copies-few; low = λ e h. low e h (below-or-not 0 (at added e)); long = A .long };
       }
     where
       low : (e : ℕ) → e < plainSlots s → (0 < at added e) ⊎ (at added e ≤ 0) → at full e ≤ 400_000_000

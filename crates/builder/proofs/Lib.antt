@@ -20,3 +20,5 @@ pub mod FinishLawsSlots
 pub mod FinishLawsFlow
 pub mod Certificate
 pub mod FinishLawsEnd
+pub mod Lowest
+pub mod Determined

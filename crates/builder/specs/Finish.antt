@@ -102,14 +102,19 @@ pub record Added (plain : ℕ) (from to load first added full : List ℕ) : Type
   pub full-is : (e : ℕ) → e < plain → at full e ≡ at first e + at added e
   pub kept : (e : ℕ) → plain ≤ e → at full e ≡ at first e
 
--- Marks and full loads once all is carried: settled, going round, and with no more copies opened than an answer may hold.
-pub record Flowed (s from to mark full : List ℕ) : Type 0 where
-  pub added : List ℕ
-  pub settled : Settled s mark added full
+-- Full loads once all is carried: they go round, each prepared read has its unit, and no more copies open than an answer may hold.
+pub record Loaded (s from to full : List ℕ) : Type 0 where
   pub goes : GoesRound s (2 * vertexCount s + 1) from to full
+  pub reads : (r : ℕ) → r < length (preparedOf s) → at full (readingSlot s r) ≡ 1
   pub few : copiesOf s full ≤ 320_000_016
   pub low : (e : ℕ) → e < plainSlots s → at full e ≤ 400_000_000
   pub long : length full ≡ 464
+
+-- Marks and full loads once all is carried.
+pub record Flowed (s from to mark full : List ℕ) : Type 0 where
+  pub added : List ℕ
+  pub settled : Settled s mark added full
+  pub loaded : Loaded s from to full
 
 -- An answer that the checker accepts stands in the first r bytes, and every other byte is as it was.
 pub record Answered (s before after : List ℕ) (r : ℕ) : Type 0 where

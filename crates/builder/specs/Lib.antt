@@ -5,3 +5,4 @@ pub mod Build
 pub mod Finish
 pub mod Setup
 pub mod Lay
+pub mod Stages
