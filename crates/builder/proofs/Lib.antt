@@ -10,3 +10,7 @@ pub mod NetworkLawsPush
 pub mod NetworkLawsCarry
 pub mod FinishLawsSlots
 pub mod Certificate
+pub mod LayLaws
+pub mod LayLawsLoad
+pub mod LayLawsBalance
+pub mod Shape

@@ -4,3 +4,4 @@ pub mod Peel
 pub mod Build
 pub mod Finish
 pub mod Setup
+pub mod Lay

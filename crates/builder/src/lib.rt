@@ -10,3 +10,6 @@ pub struct Built {
 // A bare network and the flow of lowest cost in it: it knows nothing of graphs and reads.
 mod network;
 mod reach;
+
+// Lays the working network of a graph form: edges, first loads, live nodes, surpluses and deficits.
+mod setup;
