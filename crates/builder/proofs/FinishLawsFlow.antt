@@ -1,5 +1,5 @@
 -- From what the flow leaves to what a build ends with: marks and loads are settled, the full loads go round, and they open no more copies than there was to move.
-use Prim.Native.Nat.{ℕ, zero, suc, _+_, _*_, _-_, _/_, _≤_, _<_}
+use Prim.Native.Nat.{ℕ, zero, suc, _+_, _*_, _-_, _≤_, _<_}
 use native.Mathlib.Omega.{arith}
 use mathlib.Core.Path.{_≡_, refl, sym, ap, ap₂, subst, subst₂, _∙_}
 use mathlib.Core.List.{List, []}
@@ -20,6 +20,7 @@ use Rattle.builder.specs.Lay.{EdgesLaid, LoadsLaid, LiveLaid}
 use Rattle.builder.specs.Peel.{GoesRound}
 use Rattle.builder.specs.Finish.{Settled, copiesOf, Added, Flowed}
 use Rattle.builder.proofs.NetworkLaws.{same-or-not, below-or-not, sum-same, share-same, share-other}
+use Rattle.builder.proofs.LayLawsLoad.{live-in, live-out}
 use Rattle.builder.proofs.FinishLawsSlots
 
 -- ---- an edge and its link
@@ -41,19 +42,6 @@ module _ (s : List ℕ) (e : ℕ) where
       pick : T (inUse s (linkAt s e)) ⊎ (T (inUse s (linkAt s e)) → ⊥) → T (inUse s (linkAt s e))
       pick (inl u) = u
       pick (inr n) = absurd (d (rw (is-false (inUse s (linkAt s e)) n)))
-
--- TEMP until lay lands
-live-in : (s : List ℕ) (v : ℕ) → liveNode s (inNode v) ≡ useful (graphOf s) v
-unfolding liveNode
-live-in s v =
-    let e : inNode v ≡ suc (2 * v) = omega arith in
-    ap (liveNode s) e ∙ ap (useful (graphOf s)) (let h : 2 * v / 2 ≡ v = omega arith in h)
-
-live-out : (s : List ℕ) (v : ℕ) → liveNode s (outNode v) ≡ useful (graphOf s) v
-unfolding liveNode
-live-out s v =
-    let e : outNode v ≡ suc (2 * v + 1) = omega arith in
-    ap (liveNode s) e ∙ ap (useful (graphOf s)) (let h : (2 * v + 1) / 2 ≡ v = omega arith in h)
 
 -- ---- shares
 
@@ -245,8 +233,8 @@ module _ (s : List ℕ) (right : Reads s) (from to cost first load mark added fu
         C .root-sends,
       )
 
-  pub flowed : ((e : ℕ) → e < plainSlots s → at load e ≤ 320_000_016) → Flowed s from to mark full
-  flowed loads-low =
+  pub flowed : Flowed s from to mark full
+  flowed =
       record {
         added = added;
         settled = settled;
@@ -254,5 +242,5 @@ module _ (s : List ℕ) (right : Reads s) (from to cost first load mark added fu
       }
     where
       low : (e : ℕ) → e < plainSlots s → (0 < at added e) ⊎ (at added e ≤ 0) → at full e ≤ 400_000_000
-      low e h (inl l) = omega (arith, A .full-is e h, F .is e (plain-below e h), first-low e (plain-below e h), added-there e h l .1, loads-low e h)
+      low e h (inl l) = omega (arith, A .full-is e h, F .is e (plain-below e h), first-low e (plain-below e h), added-there e h l .1, C .few e h)
       low e h (inr z) = omega (arith, A .full-is e h, F .is e (plain-below e h), first-low e (plain-below e h))

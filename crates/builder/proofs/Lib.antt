@@ -17,6 +17,10 @@ pub mod PeelLawsAll
 pub mod PeelLawsOne
 pub mod FinishLaws
 pub mod FinishLawsSlots
+pub mod LayLaws
+pub mod LayLawsLoad
+pub mod LayLawsBalance
+pub mod Shape
 pub mod FinishLawsFlow
 pub mod Certificate
 pub mod FinishLawsEnd

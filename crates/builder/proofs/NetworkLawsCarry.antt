@@ -242,4 +242,5 @@ module _ (N E : ℕ) (live : List Bool) (from to cost load mark surplus deficit 
           let h = no-surplus in
           omega arith;
       root-sends = let a = S .root in let b = nothing-leaves 0 in let c = no-surplus in omega arith;
+      few = λ e l. let a = C .few e l in omega arith;
     }

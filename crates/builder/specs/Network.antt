@@ -308,3 +308,4 @@ pub record Carried (N E : ℕ) (live : List Bool) (from to cost load mark : List
   pub marks-near : MarksNear N live mark
   pub balance : (u : ℕ) → u < N → leaving from load E u + wanted u ≡ entering to load E u + given u
   pub root-sends : leaving from load E 0 ≤ moved
+  pub few : (e : ℕ) → e < E → at load e ≤ 320_000_016

@@ -12,10 +12,10 @@ use Rattle.checker.specs.GraphForm.{vertexCount}
 use Rattle.checker.specs.GraphOf.{graphOf}
 use Rattle.checker.specs.GraphReads.{Reads}
 use Rattle.checker.specs.ReadTable.{Leaves}
-use Rattle.builder.specs.Network.{at, base}
-use Rattle.builder.specs.Slots.{preparedOf}
+use Rattle.builder.specs.Network.{at}
+use Rattle.builder.specs.Slots.{preparedOf, allSlots}
 use Rattle.builder.specs.Setup.{Tells}
-use Rattle.builder.specs.Lay.{VerticesCounted, ArcsCounted}
+use Rattle.builder.specs.Lay.{VerticesCounted, ArcsCounted, EdgesLaid, LoadsLaid, LiveLaid, Balanced}
 
 -- the table holds the prepared reads, and the counts say how many of them pass each vertex and each arc
 pub record ReadsReady (s : List ℕ) (rows : List (List ℕ)) (lens : List ℕ) (count : ℕ) (vertexReads arcReads : List ℕ) : Type 0 where
@@ -23,16 +23,30 @@ pub record ReadsReady (s : List ℕ) (rows : List (List ℕ)) (lens : List ℕ) 
   pub vertices : VerticesCounted s vertexReads
   pub arcs : ArcsCounted s arcReads
 
--- The flow may start: a cover exists, useful vertices are marked, and every mark is the base.
-pub record FlowReady (s : List ℕ) (kept : List Bool) (from to mark full : List ℕ) : Type 0 where
+-- A cover exists, and the useful vertices are marked.
+pub record Layable (s : List ℕ) (kept : List Bool) : Type 0 where
   pub reads : Reads s
   pub coverable : Coverable (graphOf s)
   pub marked : Tells s (useful (graphOf s)) kept
+
+-- arrays that nothing is laid in yet
+pub record Blank (from to cost full : List ℕ) (live : List Bool) (surplus deficit : List ℕ) : Type 0 where
   pub from-long : length from ≡ 464
   pub to-long : length to ≡ 464
+  pub cost-long : length cost ≡ 464
   pub full-long : length full ≡ 464
-  pub mark-long : length mark ≡ 129
-  pub at-base : (u : ℕ) → u < 129 → at mark u ≡ base
+  pub live-long : length live ≡ 129
+  pub surplus-long : length surplus ≡ 129
+  pub deficit-long : length deficit ≡ 129
+  pub no-surplus : (u : ℕ) → at surplus u ≡ 0
+  pub no-deficit : (u : ℕ) → at deficit u ≡ 0
+
+-- the whole network of the form s, with its first loads and what has to move
+pub record NetworkLaid (s from to cost first : List ℕ) (live : List Bool) (surplus deficit : List ℕ) : Type 0 where
+  pub edges : EdgesLaid s (allSlots s) from to cost
+  pub loads : LoadsLaid s (allSlots s) first
+  pub nodes : LiveLaid s (2 * vertexCount s + 1) live
+  pub balance : Balanced (2 * vertexCount s + 1) (allSlots s) from to first surplus deficit
 
 -- loads are being added to the first ones: those below k are, the others are as they were
 pub record Adding (k : ℕ) (from to load first added full : List ℕ) : Type 0 where

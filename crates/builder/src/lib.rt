@@ -17,3 +17,5 @@ mod peel;
 mod collect;
 // What a build ends with: marks, price, and the answer form in the output.
 mod finish;
+// Lays the working network of a graph form: edges, first loads, live nodes, surpluses and deficits.
+mod setup;
