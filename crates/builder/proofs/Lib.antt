@@ -22,7 +22,9 @@ pub mod LayLawsLoad
 pub mod LayLawsBalance
 pub mod Shape
 pub mod FinishLawsFlow
+pub mod FinishLawsStages
 pub mod Certificate
 pub mod FinishLawsEnd
 pub mod Lowest
 pub mod Determined
+pub mod FinishLawsPromise

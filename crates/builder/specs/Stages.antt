@@ -5,14 +5,15 @@ use mathlib.Core.Path.{_≡_}
 use mathlib.Core.List.{List}
 use mathlib.Core.Bool.{Bool, cond}
 use lib.Dec.{eqb}
-use lib.ListN.{length}
+use mathlib.Core.Logic.{_≢_}
+use lib.ListN.{length, set}
 use Rattle.mathematics.specs.Exists.{Coverable}
 use Rattle.mathematics.specs.Reach.{useful}
 use Rattle.checker.specs.GraphForm.{vertexCount}
 use Rattle.checker.specs.GraphOf.{graphOf}
 use Rattle.checker.specs.GraphReads.{Reads}
 use Rattle.checker.specs.ReadTable.{Leaves}
-use Rattle.builder.specs.Network.{at}
+use Rattle.builder.specs.Network.{at, base}
 use Rattle.builder.specs.Slots.{preparedOf, allSlots}
 use Rattle.builder.specs.Setup.{Tells}
 use Rattle.builder.specs.Lay.{VerticesCounted, ArcsCounted, EdgesLaid, LoadsLaid, LiveLaid, Balanced}
@@ -47,6 +48,16 @@ pub record NetworkLaid (s from to cost first : List ℕ) (live : List Bool) (sur
   pub loads : LoadsLaid s (allSlots s) first
   pub nodes : LiveLaid s (2 * vertexCount s + 1) live
   pub balance : Balanced (2 * vertexCount s + 1) (allSlots s) from to first surplus deficit
+
+-- every mark is the base
+pub record AtBase (mark : List ℕ) : Type 0 where
+  pub long : length mark ≡ 129
+  pub each : (u : ℕ) → u < 129 → at mark u ≡ base
+
+-- what the flow carries on edge e is dropped where the edge is a loop, and else is added to its first load
+pub data OneAdded (e : ℕ) (from to load full load' full' : List ℕ) : Type 0 where
+  dropped : at from e ≡ at to e → load' ≡ set load e 0 → full' ≡ full → OneAdded e from to load full load' full'
+  joined : at from e ≢ at to e → load' ≡ load → full' ≡ set full e (at full e + at load e) → OneAdded e from to load full load' full'
 
 -- loads are being added to the first ones: those below k are, the others are as they were
 pub record Adding (k : ℕ) (from to load first added full : List ℕ) : Type 0 where

@@ -19,3 +19,5 @@ mod collect;
 mod finish;
 // Lays the working network of a graph form: edges, first loads, live nodes, surpluses and deficits.
 mod setup;
+// The builder's call.
+pub mod build;

@@ -18,7 +18,7 @@ ghost use Rattle.builder.specs.Slots.{preparedOf, plainSlots, allSlots};
 ghost use Rattle.builder.specs.Setup.{Tells};
 ghost use Rattle.builder.specs.Lay.{Stored, EdgesLaid, VerticesCounted, ArcsCounted, LoadsLaid, LiveLaid, Summable, Tallied, Netted, Balanced};
 
-fn both(a: bool, b: bool) -> bool
+pub fn both(a: bool, b: bool) -> bool
     ensures { λ r. ⌜ r ≡ a && b ⌝ }
 {
     if a { b } else { false }
