@@ -176,7 +176,7 @@ pub record Acceptable (s : List ℕ) (W : List Weighted) : Type 0 where
 
 module _ (s : List ℕ) (r : Reads s) where
   -- paths of the graph and weights of at most the limit fit the form's fields
-  all-holdable : (W : List Weighted) → totalWeight W ≤ maxWeight → All (λ w. T (isPath (graphOf s) (w .path))) W → All Holdable W
+  pub all-holdable : (W : List Weighted) → totalWeight W ≤ maxWeight → All (λ w. T (isPath (graphOf s) (w .path))) W → All Holdable W
   all-holdable [] l h = tt
   all-holdable (w ∷ W) l h =
       let inside = path-inside (graphOf s) (graph-well-formed s r) (w .path) (h .0) in
@@ -211,6 +211,14 @@ module _ (s : List ℕ) (r : Reads s) where
         bytes = Encoding.encoded-bytes (vertexCount s) p m W small few holdable (omega arith) (λ v k. fit v (subst (λ n. v < n) (sym (vertices-length s)) k));
         fits = Encoding.encoded-fits (vertexCount s) p m W small few holdable;
       }
+
+  -- The answer form of a cover within the limits, in ascending order, at its price, with marks in range that show it, is accepted.
+  pub shown-form-accepted : (W : List Weighted) → IsCover (graphOf s) W → graphVerdict s .number ≡ 0 → length W ≤ maxPaths → totalWeight W ≤ maxWeight → Ascending [] (paths W) →
+      (m : Marks ℤ) → MarksFit s m → Shows whole (graphOf s) m W → (p : ℕ) → price whole (graphOf s) W ≡ pos p →
+      checkVerdict s (encodeAnswer (vertexCount s) p m W) ≡ nothingRefused
+  unfolding form
+  shown-form-accepted W c reads few light ascending m fit shown p e =
+      accepted-nothing-refused s (encodeAnswer (vertexCount s) p m W) (shown-accepted s r reads W c few light ascending m fit p shown e)
 
 module _ (s : List ℕ) (reads : graphVerdict s .number ≡ 0) where
   known : Reads s

@@ -77,7 +77,7 @@ out-word m (suc count) k (suc v) q h =
     (be32-behind pair (markBytes m count (suc k) ++ q) (8 * v + 4) ∙
     (out-word m count (suc k) v q (omega arith) ∙ ap (λ i. word32 (m .out i)) (let e : suc k + v ≡ k + suc v = omega arith in e)))
 
-marks-length : (m : Marks ℤ) (count v : ℕ) → length (markBytes m count v) ≡ 8 * count
+pub marks-length : (m : Marks ℤ) (count v : ℕ) → length (markBytes m count v) ≡ 8 * count
 marks-length m zero v = refl
 marks-length m (suc count) v = let e = marks-length m count (suc v) in omega arith
 

@@ -20,7 +20,7 @@ all-last Q v (w ∷ p) h = all-last Q w p (h .1)
 
 module _ {E : Type 0} (G : Graph E) (g : WellFormed G) where
   -- from a vertex on, linked vertices stay below n and rise
-  linked-inside : (v : ℕ) (p : List ℕ) → v < length (G .vertices) → T (linked (G .arcs) (v ∷ p)) →
+  pub linked-inside : (v : ℕ) (p : List ℕ) → v < length (G .vertices) → T (linked (G .arcs) (v ∷ p)) →
       All (λ w. w < length (G .vertices)) (v ∷ p) × (v + length (v ∷ p) ≤ length (G .vertices))
   linked-inside v [] h l = ((h, tt), omega arith)
   linked-inside v (w ∷ p) h l =

@@ -1,0 +1,131 @@
+-- The builder's theorems, from its promise alone: when it refuses, when it does not, and that the bytes it writes are an answer form of a lowest-price cover.
+use Prim.Native.Nat.{ℕ, zero, suc, _+_, _*_, _≤_, _<_}
+use native.Mathlib.Omega.{arith}
+use mathlib.Core.Path.{_≡_, refl, sym, ap, subst, _∙_}
+use mathlib.Core.List.{List, [], _∷_}
+use mathlib.Core.Bool.{Bool, true, false, cond}
+use mathlib.Core.Logic.{_⊎_, inl, inr, _≢_, _↔_}
+use borrow.Author.Tests.{eq-eqb, ne-eqb, le-ltb}
+use lib.Dec.{T, ltb, eqb}
+use lib.IntN.{pos}
+use lib.ListN.{length, take}
+use Rattle.mathematics.specs.Price.{whole}
+use Rattle.mathematics.specs.Cover.{Weighted, totalWeight, IsCover, price, IsLowest}
+use Rattle.mathematics.proofs.Existence.{cover-shows-coverable}
+use Rattle.checker.specs.declared.Verdict.{Verdict}
+use Rattle.checker.specs.Limits.{maxPaths, maxWeight}
+use Rattle.checker.specs.GraphForm.{vertexCount}
+use Rattle.checker.specs.GraphOf.{graphOf}
+use Rattle.checker.specs.GraphReads.{Reads}
+use Rattle.checker.specs.GraphFaults.{refusal, nothingRefused, graphVerdict}
+use Rattle.checker.specs.AnswerForm.{statedPrice, pathCount, inMarkAt, outMarkAt, marksOf, firstPathAt, pathWeight, pathVertices, pathEnd, pathsFrom, coverOf}
+use Rattle.checker.specs.Check.{checkVerdict}
+use Rattle.checker.proofs.Accepted.{MarkRight, MarksRight, PathsRight, number-zero-accepted}
+use Rattle.checker.proofs.Completeness.{MarksFit}
+use Rattle.checker.proofs.GraphFacts.{graph-well-formed}
+use Rattle.checker.proofs.GraphReads.{number-zero-iff-reads, number-to-seven}
+use Rattle.checker.proofs.GraphRange.{vertices-length}
+use Rattle.checker.proofs.Soundness.{accepted-is-lowest}
+use Rattle.builder.specs.declared.Built.{Built}
+use Rattle.builder.specs.Build.{roomAsked, coverVerdict, buildVerdict, BuildPromise}
+use Rattle.builder.proofs.NetworkLaws.{same-or-not}
+use Rattle.builder.proofs.Coverable.{FirstLacking, eight-iff-no-cover, eight-at-first-lacking, coverable-asks-room}
+
+-- ---- the verdict
+
+module _ (s : List ℕ) (room : ℕ) where
+  pub verdict-of-read : graphVerdict s .number ≡ 0 → buildVerdict s room ≡ coverVerdict (graphOf s) room
+  unfolding buildVerdict
+  verdict-of-read e = rw (eq-eqb (graphVerdict s .number) 0 e)
+
+  pub verdict-of-unread : graphVerdict s .number ≢ 0 → buildVerdict s room ≡ graphVerdict s
+  unfolding buildVerdict
+  verdict-of-unread n = rw (ne-eqb (graphVerdict s .number) 0 n)
+
+-- ---- the answer that is written
+
+-- What the bytes t are for the graph bytes s: an answer form of a lowest-price cover at its price, inside the limits of document 01, "Numbers allowed".
+pub record LowestForm (s t : List ℕ) : Type 0 where
+  pub lowest : IsLowest whole (graphOf s) (coverOf (vertexCount s) t)
+  pub price-stated : price whole (graphOf s) (coverOf (vertexCount s) t) ≡ pos (statedPrice t)
+  pub few-paths : length (coverOf (vertexCount s) t) ≤ maxPaths
+  pub few-copies : totalWeight (coverOf (vertexCount s) t) ≤ maxWeight
+  pub marks-fit : MarksFit s (marksOf t)
+
+paths-counted : (t : List ℕ) (count place : ℕ) → length (pathsFrom t count place) ≡ count
+paths-counted t zero place = refl
+paths-counted t (suc count) place = ap suc (paths-counted t count (pathEnd t place))
+
+paths-light : (s t : List ℕ) (count place : ℕ) (before : List ℕ) (copies : ℕ) → copies ≤ maxWeight → PathsRight s t count place before copies →
+    copies + totalWeight (pathsFrom t count place) ≤ maxWeight
+paths-light s t zero place before copies h p = omega arith
+paths-light s t (suc count) place before copies h p =
+    omega (arith, paths-light s t count (pathEnd t place) (pathVertices t place) (copies + pathWeight t place) (p .0 .few-copies) (p .1))
+
+mark-at : (t : List ℕ) (count place k : ℕ) → MarksRight t count place → k < count → MarkRight t (place + 4 * k)
+mark-at t zero place k h l = absurd (omega arith)
+mark-at t (suc count) place zero h l = subst (MarkRight t) (let e : place ≡ place + 4 * 0 = omega arith in e) (h .0)
+mark-at t (suc count) place (suc k) h l =
+    subst (MarkRight t) (let e : place + 4 + 4 * k ≡ place + 4 * suc k = omega arith in e) (mark-at t count (place + 4) k (h .1) (omega arith))
+
+-- An accepted answer is the form of a lowest-price cover.
+accepted-lowest : (s t : List ℕ) → checkVerdict s t .number ≡ 0 → LowestForm s t
+unfolding coverOf marksOf
+accepted-lowest s t e =
+    let a = number-zero-accepted s t e in
+    let l = accepted-is-lowest s t e in
+    record {
+      lowest = l .0;
+      price-stated = l .1;
+      few-paths = omega (arith, paths-counted t (pathCount t) (firstPathAt (vertexCount s)), a .header .few-paths);
+      few-copies = omega (arith, paths-light s t (pathCount t) (firstPathAt (vertexCount s)) [] 0 (omega arith) (a .paths));
+      marks-fit = λ v h.
+          let b : v < vertexCount s = subst (λ k. v < k) (vertices-length s) h in (
+            subst (MarkRight t) (let q : inMarkAt 0 + 4 * (2 * v) ≡ inMarkAt v = omega arith in q) (mark-at t (2 * vertexCount s) (inMarkAt 0) (2 * v) (a .marks) (omega arith)),
+            subst (MarkRight t) (let q : inMarkAt 0 + 4 * (2 * v + 1) ≡ outMarkAt v = omega arith in q)
+                (mark-at t (2 * vertexCount s) (inMarkAt 0) (2 * v + 1) (a .marks) (omega arith)),
+          );
+    }
+
+-- ---- the theorems
+
+module _ (s before after : List ℕ) (r : Built) (P : BuildPromise s before after r) where
+  number-is : r .number ≡ buildVerdict s (length before) .number
+  number-is = ap (λ (v : Verdict). v .number) (P .verdict)
+
+  -- Document 01, number 8, "builder: no cover": it is given exactly when the graph reads and no cover exists.
+  pub refused-8-iff-no-cover : (r .number ≡ 8) ↔ ((graphVerdict s .number ≡ 0) × ((W : List Weighted) → IsCover (graphOf s) W → ⊥))
+  refused-8-iff-no-cover = (λ e. there e (same-or-not (graphVerdict s .number) 0), back)
+    where
+      wf : (e : graphVerdict s .number ≡ 0) → (coverVerdict (graphOf s) (length before) .number ≡ 8) ↔ ((W : List Weighted) → IsCover (graphOf s) W → ⊥)
+      wf e = eight-iff-no-cover (graphOf s) (graph-well-formed s (number-zero-iff-reads s .0 e)) (length before)
+
+      there : r .number ≡ 8 → (graphVerdict s .number ≡ 0) ⊎ (graphVerdict s .number ≢ 0) →
+          (graphVerdict s .number ≡ 0) × ((W : List Weighted) → IsCover (graphOf s) W → ⊥)
+      there e (inl reads) = (reads, wf reads .0 (sym (ap (λ (v : Verdict). v .number) (verdict-of-read s (length before) reads)) ∙ (sym number-is ∙ e)))
+      there e (inr not) =
+          absurd (omega (arith, number-to-seven s, sym (ap (λ (v : Verdict). v .number) (verdict-of-unread s (length before) not)) ∙ (sym number-is ∙ e)))
+
+      back : (graphVerdict s .number ≡ 0) × ((W : List Weighted) → IsCover (graphOf s) W → ⊥) → r .number ≡ 8
+      back h = number-is ∙ (ap (λ (v : Verdict). v .number) (verdict-of-read s (length before) (h .0)) ∙ wf (h .0) .1 (h .1))
+
+  -- Its place: "first item that asks for something (positive demand, or a read) and lies on no start-to-end path".
+  pub refused-8-at-first-lacking : r .number ≡ 8 → FirstLacking (graphOf s) (r .place)
+  refused-8-at-first-lacking e =
+      let reads = refused-8-iff-no-cover .0 e .0 in
+      let same = P .verdict ∙ verdict-of-read s (length before) reads in
+      subst (FirstLacking (graphOf s)) (sym (ap (λ (v : Verdict). v .place) same))
+      (eight-at-first-lacking (graphOf s) (graph-well-formed s (number-zero-iff-reads s .0 reads)) (length before) (sym (ap (λ (v : Verdict). v .number) same) ∙ e))
+
+  -- Where the graph reads, a cover exists and the output has the room that number 9 asks for, nothing is refused.
+  pub room-asked-is-enough : graphVerdict s .number ≡ 0 → (W : List Weighted) → IsCover (graphOf s) W → roomAsked ≤ length before → r .number ≡ 0
+  room-asked-is-enough reads W c room =
+      let g = graph-well-formed s (number-zero-iff-reads s .0 reads) in
+      number-is ∙
+      (ap (λ (v : Verdict). v .number)
+      (verdict-of-read s (length before) reads ∙ coverable-asks-room (graphOf s) g (length before) (cover-shows-coverable (graphOf s) W c)) ∙
+      ap (λ b. cond b (refusal 9 0) nothingRefused .number) (le-ltb (length before) roomAsked room))
+
+  -- Where nothing is refused, the bytes written are an answer form of a lowest-price cover, inside the limits.
+  pub written-is-lowest : r .number ≡ 0 → LowestForm s (take (r .written) after)
+  written-is-lowest e = accepted-lowest s (take (r .written) after) (ap (λ (v : Verdict). v .number) (P .accepted e))

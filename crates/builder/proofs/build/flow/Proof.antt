@@ -1,0 +1,54 @@
+-- `builder::build::flow` meets its contract: the network is laid, everything is carried, and what is carried is added to the first loads. Assumes nothing.
+use Rattle.builder.proofs.FinishLawsStages.{blank, to-carry, to-add, flow-done}
+use borrow.Author.Needs.{needs}
+use Rattle.builder.proofs.build.flow.Statement.{statement}
+use Rattle.builder.proofs.build.flow.Tie as tie
+
+shared-slice-read-wide : tie.Need-shared-slice-read-wide
+shared-slice-read-wide c = search needs
+
+wide-requires : tie.Need-wide-requires
+wide-requires c κs = search needs
+
+be16-requires : tie.Need-be16-requires
+be16-requires c κs = search needs
+
+mul-plain : tie.Need-mul-plain
+mul-plain c = search needs
+
+add-plain : tie.Need-add-plain
+add-plain c = search needs
+
+lay-network-requires : tie.Need-lay-network-requires
+lay-network-requires c κs = let q = c .before .before .before .before .before .before .before .before .before .before .before .pre .1 .1 in (c .before .before .before .before .before .before .before .before .before .before .before .pre .0, (c .before .before .before .before .before .before .before .before .before .before .before .pre .1 .0, blank _ _ _ (q .0) (q .1) (q .2)))
+
+mul-carry : tie.Need-mul-carry
+mul-carry c = search needs
+
+add-carry : tie.Need-add-carry
+add-carry c = search needs
+
+carry-requires : tie.Need-carry-requires
+carry-requires c κs = to-carry _ _ (c .before .before .before .before .before .before .before .before .before .before .before .before .before .before .before .before .before .before .before .before .pre .0) _ _ (c .before .before .before .before .before .before .before .before .before .before .before .before .before .before .before .before .before .wide .ensures .0) (c .before .before .before .before .before .before .before .before .before .before .before .before .before .before .before .before .be16 .ensures .0) _ _ _ _ _ _ _ (c .before .before .before .before .before .before .before .before .lay-network .ensures) _ (c .before .before .before .before .before .before .before .before .before .before .before .before .before .before .before .before .before .before .before .before .pre .1 .1 .3)
+
+add-loads-requires : tie.Need-add-loads-requires
+add-loads-requires c κs = to-add _ _ (c .before .before .before .before .before .before .before .before .before .before .before .before .before .before .before .before .before .before .before .before .before .before .before .before .before .pre .0) _ _ (c .before .before .before .before .before .before .before .before .before .before .before .before .before .before .before .before .before .before .before .before .before .before .wide .ensures .0) (c .before .before .before .before .before .before .before .before .before .before .before .before .before .before .before .before .before .before .before .before .before .be16 .ensures .0) _ _ _ _ _ _ _ (c .before .before .before .before .before .before .before .before .before .before .before .before .before .lay-network .ensures) _ _ (c .before .before .before .before .carry .ensures .0) (c .before .before .before .before .carry .ensures .1 .0)
+
+returns : tie.Need-returns
+returns c = flow-done _ _ (c .before .before .before .before .before .before .before .before .before .before .before .before .before .before .before .before .before .before .before .before .before .before .before .before .before .before .pre .0) _ _ (c .before .before .before .before .before .before .before .before .before .before .before .before .before .before .before .before .before .before .before .before .before .before .before .wide .ensures .0) (c .before .before .before .before .before .before .before .before .before .before .before .before .before .before .before .before .before .before .before .before .before .before .be16 .ensures .0) _ _ _ _ _ _ _ (c .before .before .before .before .before .before .before .before .before .before .before .before .before .before .lay-network .ensures) _ _ (c .before .before .before .before .before .carry .ensures .0) _ _ (c .add-loads .ensures)
+
+pub flow-spec : {M : Type 1} → statement M
+flow-spec =
+    tie.close
+    (tie.spec
+    shared-slice-read-wide
+    wide-requires
+    be16-requires
+    mul-plain
+    add-plain
+    lay-network-requires
+    mul-carry
+    add-carry
+    carry-requires
+    add-loads-requires
+    returns)

@@ -1,0 +1,8 @@
+pub mod Network
+pub mod Slots
+pub mod Peel
+pub mod Build
+pub mod Finish
+pub mod Setup
+pub mod Lay
+pub mod Stages

@@ -1,0 +1,69 @@
+-- What the stages of a build hand on: the prepared reads in their table with the counts of what they pass, and the arrays that the flow starts from. Private
+-- functions cite these; no public promise does.
+use Prim.Native.Nat.{ℕ, _+_, _*_, _≤_, _<_}
+use mathlib.Core.Path.{_≡_}
+use mathlib.Core.List.{List}
+use mathlib.Core.Bool.{Bool, cond}
+use lib.Dec.{eqb}
+use mathlib.Core.Logic.{_≢_}
+use lib.ListN.{length, set}
+use Rattle.mathematics.specs.Exists.{Coverable}
+use Rattle.mathematics.specs.Reach.{useful}
+use Rattle.checker.specs.GraphForm.{vertexCount}
+use Rattle.checker.specs.GraphOf.{graphOf}
+use Rattle.checker.specs.GraphReads.{Reads}
+use Rattle.checker.specs.ReadTable.{Leaves}
+use Rattle.builder.specs.Network.{at, base}
+use Rattle.builder.specs.Slots.{preparedOf, allSlots}
+use Rattle.builder.specs.Setup.{Tells}
+use Rattle.builder.specs.Lay.{VerticesCounted, ArcsCounted, EdgesLaid, LoadsLaid, LiveLaid, Balanced}
+
+-- the table holds the prepared reads, and the counts say how many of them pass each vertex and each arc
+pub record ReadsReady (s : List ℕ) (rows : List (List ℕ)) (lens : List ℕ) (count : ℕ) (vertexReads arcReads : List ℕ) : Type 0 where
+  pub table : Leaves rows lens count (preparedOf s)
+  pub vertices : VerticesCounted s vertexReads
+  pub arcs : ArcsCounted s arcReads
+
+-- A cover exists, and the useful vertices are marked.
+pub record Layable (s : List ℕ) (kept : List Bool) : Type 0 where
+  pub reads : Reads s
+  pub coverable : Coverable (graphOf s)
+  pub marked : Tells s (useful (graphOf s)) kept
+
+-- arrays that nothing is laid in yet
+pub record Blank (from to cost full : List ℕ) (live : List Bool) (surplus deficit : List ℕ) : Type 0 where
+  pub from-long : length from ≡ 464
+  pub to-long : length to ≡ 464
+  pub cost-long : length cost ≡ 464
+  pub full-long : length full ≡ 464
+  pub live-long : length live ≡ 129
+  pub surplus-long : length surplus ≡ 129
+  pub deficit-long : length deficit ≡ 129
+  pub no-surplus : (u : ℕ) → at surplus u ≡ 0
+  pub no-deficit : (u : ℕ) → at deficit u ≡ 0
+
+-- the whole network of the form s, with its first loads and what has to move
+pub record NetworkLaid (s from to cost first : List ℕ) (live : List Bool) (surplus deficit : List ℕ) : Type 0 where
+  pub edges : EdgesLaid s (allSlots s) from to cost
+  pub loads : LoadsLaid s (allSlots s) first
+  pub nodes : LiveLaid s (2 * vertexCount s + 1) live
+  pub balance : Balanced (2 * vertexCount s + 1) (allSlots s) from to first surplus deficit
+
+-- every mark is the base
+pub record AtBase (mark : List ℕ) : Type 0 where
+  pub long : length mark ≡ 129
+  pub each : (u : ℕ) → u < 129 → at mark u ≡ base
+
+-- what the flow carries on edge e is dropped where the edge is a loop, and else is added to its first load
+pub data OneAdded (e : ℕ) (from to load full load' full' : List ℕ) : Type 0 where
+  dropped : at from e ≡ at to e → load' ≡ set load e 0 → full' ≡ full → OneAdded e from to load full load' full'
+  joined : at from e ≢ at to e → load' ≡ load → full' ≡ set full e (at full e + at load e) → OneAdded e from to load full load' full'
+
+-- loads are being added to the first ones: those below k are, the others are as they were
+pub record Adding (k : ℕ) (from to load first added full : List ℕ) : Type 0 where
+  pub added-long : length added ≡ 464
+  pub full-long : length full ≡ 464
+  pub added-is : (e : ℕ) → e < k → at added e ≡ cond (eqb (at from e) (at to e)) 0 (at load e)
+  pub full-is : (e : ℕ) → e < k → at full e ≡ at first e + at added e
+  pub load-kept : (e : ℕ) → k ≤ e → at added e ≡ at load e
+  pub full-kept : (e : ℕ) → k ≤ e → at full e ≡ at first e

@@ -1,0 +1,402 @@
+// The builder's call, and the stages that it goes through. Each stage lends the arrays that it fills; none is copied.
+use crate::Built;
+use crate::finish::final_marks;
+use crate::finish::final_price;
+use crate::finish::write_answer;
+use crate::network::carry_all;
+use crate::network::chain;
+use crate::peel::peel_all;
+use crate::reach::first_lacking;
+use crate::reach::reach_ends;
+use crate::reach::reach_from_starts;
+use crate::setup::both;
+use crate::setup::lay_balance;
+use crate::setup::lay_edges;
+use crate::setup::lay_live;
+use crate::setup::lay_loads;
+use checker::Graph;
+use checker::bytes::be16;
+use checker::bytes::wide;
+use checker::certify::count_reads;
+use checker::certify::load_reads;
+use checker::reader::first_arcs;
+use checker::reader::read_graph;
+use checker::reads::prepare_reads;
+ghost use mathlib.Core.Path.{_≡_};
+ghost use Prim.Native.Nat.{ℕ, _+_, _*_, _<_, _≤_};
+ghost use lib.ListN.{length};
+ghost use Rattle.mathematics.specs.Exists.{Coverable};
+ghost use Rattle.mathematics.specs.Reach.{useful};
+ghost use Rattle.checker.specs.GraphForm.{vertexCount};
+ghost use Rattle.checker.specs.GraphOf.{graphOf};
+ghost use Rattle.checker.specs.GraphReads.{Reads};
+ghost use Rattle.checker.specs.GraphFaults.{graphVerdict};
+ghost use Rattle.checker.specs.ReadTable.{Leaves};
+ghost use Rattle.checker.specs.Certify.{TableSized, CountsLow};
+ghost use Rattle.builder.specs.Network.{at, sumTo, Shape, Waiting, Carried};
+ghost use Rattle.builder.specs.Slots.{preparedOf};
+ghost use Rattle.builder.specs.Setup.{Marked, Tells};
+ghost use Rattle.builder.specs.Peel.{PathTable, Peeled, collected};
+ghost use Rattle.builder.specs.Finish.{Added, Loaded, Flowed, Answered};
+ghost use Rattle.builder.specs.Build.{BuildPromise};
+ghost use Rattle.builder.specs.Stages.{ReadsReady, Layable, Blank, NetworkLaid, OneAdded, AtBase};
+
+// Fills the table with the prepared reads and counts what they pass; gives how many there are.
+fn prepare_table(
+    s: &[u8],
+    rows: &mut [[u8; 64]; 16],
+    lens: &mut [usize; 16],
+    vertex_reads: &mut [usize; Graph::MAX_VERTICES],
+    arc_reads: &mut [usize; Graph::MAX_ARCS],
+) -> usize
+    requires { ⌜ Reads (now s) × TableSized (now rows) (now lens) × CountsLow (now s) (now «vertex_reads») (now «arc_reads») 0 ⌝ }
+    ensures { λ r. ⌜ ReadsReady (now (s .entry)) (now (rows .exit)) (now (lens .exit)) r (now («vertex_reads» .exit)) (now («arc_reads» .exit)) ⌝ }
+{
+    let all = load_reads(s, rows, lens);
+    let count = prepare_reads(rows, lens, all);
+    let first = first_arcs(s);
+    count_reads(s, &first, rows, lens, count, vertex_reads, arc_reads);
+    count
+}
+
+// Marks the vertices that a start leads to and that lead on to an end.
+fn keep_useful(
+    s: &[u8],
+    reached: &[bool; Graph::MAX_VERTICES],
+    reaching: &[bool; Graph::MAX_VERTICES],
+    kept: &mut [bool; 64],
+)
+    requires { ⌜ Marked (now s) (now reached) (now reaching) × (length (now kept) ≡ 64) ⌝ }
+    ensures { λ _. ⌜ Tells (now (s .entry)) (useful (graphOf (now (s .entry)))) (now (kept .exit)) ⌝ }
+{
+    let n = wide(s[Graph::AT_VERTICES]);
+    let mut v: usize = 0;
+    while v < n {
+        kept[v] = both(reached[v], reaching[v]);
+        v += 1;
+    }
+}
+
+// Lays the working network: edges, first loads, live nodes, and what has to move.
+fn lay_network(
+    s: &[u8],
+    kept: &[bool; 64],
+    rows: &[[u8; 64]; 16],
+    lens: &[usize; 16],
+    count: usize,
+    vertex_reads: &[usize; Graph::MAX_VERTICES],
+    arc_reads: &[usize; Graph::MAX_ARCS],
+    from: &mut [usize; 464],
+    to: &mut [usize; 464],
+    cost: &mut [u64; 464],
+    full: &mut [u64; 464],
+    live: &mut [bool; 129],
+    surplus: &mut [u64; 129],
+    deficit: &mut [u64; 129],
+)
+    requires { ⌜ Layable (now s) (now kept) ⌝ }
+    requires { ⌜ ReadsReady (now s) (now rows) (now lens) count (now «vertex_reads») (now «arc_reads») ⌝ }
+    requires { ⌜ Blank (now from) (now to) (now cost) (now full) (now live) (now surplus) (now deficit) ⌝ }
+    ensures { λ _. ⌜ NetworkLaid (now (s .entry)) (now (from .exit)) (now (to .exit)) (now (cost .exit)) (now (full .exit)) (now (live .exit)) (now (surplus .exit)) (now (deficit .exit)) ⌝ }
+{
+    let n = wide(s[Graph::AT_VERTICES]);
+    let m = be16(s, Graph::AT_ARCS);
+    lay_edges(s, kept, rows, lens, count, from, to, cost);
+    lay_loads(s, vertex_reads, arc_reads, count, full);
+    lay_live(s, kept, live);
+    lay_balance(
+        2 * n + 1,
+        3 * n + m + count,
+        from,
+        to,
+        full,
+        surplus,
+        deficit,
+    );
+}
+
+// Moves every surplus to the deficits, along the chains of each node's edges.
+fn carry(
+    nodes: usize,
+    plain: usize,
+    live: &[bool; 129],
+    from: &[usize; 464],
+    to: &[usize; 464],
+    cost: &[u64; 464],
+    load: &mut [u64; 464],
+    mark: &mut [u64; 129],
+    surplus: &mut [u64; 129],
+    deficit: &mut [u64; 129],
+)
+    requires { ⌜ Shape nodes plain (now live) (now from) (now to) (now cost) ⌝ }
+    requires { ⌜ Waiting nodes plain (now live) (now load) (now mark) (now surplus) (now deficit) ⌝ }
+    ensures { λ _. ⌜ ((given wanted : ℕ → ℕ) → ((u : ℕ) → u < nodes → at (now (surplus .entry)) u + wanted u ≡ at (now (deficit .entry)) u + given u) → Carried nodes plain (now (live .entry)) (now (from .entry)) (now (to .entry)) (now (cost .entry)) (now (load .exit)) (now (mark .exit)) given wanted (sumTo nodes (λ u. at (now (surplus .entry)) u))) ⌝ }
+    ensures { λ _. ⌜ (length (now (load .exit)) ≡ 464) × (length (now (mark .exit)) ≡ 129) ⌝ }
+{
+    let mut headout = [0usize; 129];
+    let mut nextout = [0usize; 464];
+    chain(nodes, plain, from, &mut headout, &mut nextout);
+    let mut headin = [0usize; 129];
+    let mut nextin = [0usize; 464];
+    chain(nodes, plain, to, &mut headin, &mut nextin);
+    carry_all(
+        nodes,
+        plain,
+        live,
+        from,
+        to,
+        cost,
+        &headout,
+        &nextout,
+        &headin,
+        &nextin,
+        load,
+        mark,
+        surplus,
+        deficit,
+    );
+}
+
+// Adds what the flow carries on edge e to its first load. A loop stands for a link that is not in use: what may lie on it goes nowhere, and is dropped.
+fn add_load(
+    e: usize,
+    from: &[usize; 464],
+    to: &[usize; 464],
+    load: &mut [u64; 464],
+    full: &mut [u64; 464],
+)
+    requires { ⌜ (e < 464) × (at (now load) e ≤ 320_000_016) × (at (now full) e ≤ 1_000_000) ⌝ }
+    ensures { λ _. ⌜ OneAdded e (now (from .entry)) (now (to .entry)) (now (load .entry)) (now (full .entry)) (now (load .exit)) (now (full .exit)) ⌝ }
+{
+    if from[e] == to[e] {
+        load[e] = 0;
+    } else {
+        full[e] = full[e] + load[e];
+    }
+}
+
+// Adds what the flow carries to all first loads but those of the reads.
+fn add_loads(
+    plain: usize,
+    from: &[usize; 464],
+    to: &[usize; 464],
+    load: &mut [u64; 464],
+    full: &mut [u64; 464],
+)
+    requires { ⌜ (plain ≤ 464) × (length (now load) ≡ 464) × (length (now full) ≡ 464) ⌝ }
+    requires { ⌜ ((e : ℕ) → e < plain → (at (now load) e ≤ 320_000_016) × (at (now full) e ≤ 1_000_000)) ⌝ }
+    ensures { λ _. ⌜ Added plain (now (from .entry)) (now (to .entry)) (now (load .entry)) (now (full .entry)) (now (load .exit)) (now (full .exit)) ⌝ }
+{
+    let mut e: usize = 0;
+    while e < plain {
+        add_load(e, from, to, load, full);
+        e += 1;
+    }
+}
+
+// Takes weighted paths off the full loads; gives how many there are.
+fn take_paths(
+    s: &[u8],
+    count: usize,
+    from: &[usize; 464],
+    to: &[usize; 464],
+    rows: &[[u8; 64]; 16],
+    lens: &[usize; 16],
+    full: &mut [u64; 464],
+    paths: &mut [[u8; 64]; 464],
+    sizes: &mut [usize; 464],
+    weights: &mut [u64; 464],
+) -> usize
+    requires { ⌜ Reads (now s) × Coverable (graphOf (now s)) × Leaves (now rows) (now lens) count (preparedOf (now s)) × Loaded (now s) (now from) (now to) (now full) ⌝ }
+    requires { ⌜ (length (now paths) ≡ 464) × (length (now sizes) ≡ 464) × (length (now weights) ≡ 464) ⌝ }
+    ensures { λ r. ⌜ Peeled (now (s .entry)) (now (full .entry)) (collected (now (paths .exit)) (now (sizes .exit)) (now (weights .exit)) r) × PathTable (now (paths .exit)) (now (sizes .exit)) (now (weights .exit)) r ⌝ }
+{
+    let n = wide(s[Graph::AT_VERTICES]);
+    let m = be16(s, Graph::AT_ARCS);
+    let plain = 3 * n + m;
+    let edges = plain + count;
+    let mut head = [0usize; 129];
+    let mut next = [0usize; 464];
+    chain(2 * n + 1, edges, from, &mut head, &mut next);
+    peel_all(
+        s,
+        n,
+        plain,
+        edges,
+        from,
+        to,
+        &head,
+        &next,
+        rows,
+        lens,
+        full,
+        paths,
+        sizes,
+        weights,
+    )
+}
+
+// Finds the flow of lowest cost: marks of the nodes, and what each link carries in all.
+fn flow(
+    s: &[u8],
+    kept: &[bool; 64],
+    rows: &[[u8; 64]; 16],
+    lens: &[usize; 16],
+    count: usize,
+    vertex_reads: &[usize; Graph::MAX_VERTICES],
+    arc_reads: &[usize; Graph::MAX_ARCS],
+    from: &mut [usize; 464],
+    to: &mut [usize; 464],
+    mark: &mut [u64; 129],
+    full: &mut [u64; 464],
+)
+    requires { ⌜ Layable (now s) (now kept) ⌝ }
+    requires { ⌜ ReadsReady (now s) (now rows) (now lens) count (now «vertex_reads») (now «arc_reads») ⌝ }
+    requires { ⌜ (length (now from) ≡ 464) × (length (now to) ≡ 464) × (length (now full) ≡ 464) × AtBase (now mark) ⌝ }
+    ensures { λ _. ⌜ Flowed (now (s .entry)) (now (from .exit)) (now (to .exit)) (now (mark .exit)) (now (full .exit)) ⌝ }
+{
+    let n = wide(s[Graph::AT_VERTICES]);
+    let m = be16(s, Graph::AT_ARCS);
+    let plain = 3 * n + m;
+    let mut cost = [0u64; 464];
+    let mut live = [false; 129];
+    let mut surplus = [0u64; 129];
+    let mut deficit = [0u64; 129];
+    lay_network(
+        s,
+        kept,
+        rows,
+        lens,
+        count,
+        vertex_reads,
+        arc_reads,
+        from,
+        to,
+        &mut cost,
+        full,
+        &mut live,
+        &mut surplus,
+        &mut deficit,
+    );
+    let mut load = [0u64; 464];
+    carry(
+        2 * n + 1,
+        plain,
+        &live,
+        from,
+        to,
+        &cost,
+        &mut load,
+        mark,
+        &mut surplus,
+        &mut deficit,
+    );
+    add_loads(plain, from, to, &mut load, full);
+}
+
+// Builds and writes the answer for a graph that a cover exists for; gives its length.
+fn answer(
+    s: &[u8],
+    reached: &[bool; Graph::MAX_VERTICES],
+    reaching: &[bool; Graph::MAX_VERTICES],
+    out: &mut [u8],
+) -> usize
+    requires { ⌜ Marked (now s) (now reached) (now reaching) × Coverable (graphOf (now s)) × (graphVerdict (now s) .number ≡ 0) ⌝ }
+    requires { ⌜ 32_543 ≤ length (now out) ⌝ }
+    ensures { λ r. ⌜ Answered (now (s .entry)) (now (out .entry)) (now (out .exit)) r ⌝ }
+{
+    let n = wide(s[Graph::AT_VERTICES]);
+    let mut kept = [false; 64];
+    keep_useful(s, reached, reaching, &mut kept);
+    let mut rows = [[0u8; 64]; 16];
+    let mut lens = [0usize; 16];
+    let mut vertex_reads = [0usize; 64];
+    let mut arc_reads = [0usize; 256];
+    let count = prepare_table(s, &mut rows, &mut lens, &mut vertex_reads, &mut arc_reads);
+    let mut from = [0usize; 464];
+    let mut to = [0usize; 464];
+    let mut mark = [2_000_000_000u64; 129];
+    let mut full = [0u64; 464];
+    flow(
+        s,
+        &kept,
+        &rows,
+        &lens,
+        count,
+        &vertex_reads,
+        &arc_reads,
+        &mut from,
+        &mut to,
+        &mut mark,
+        &mut full,
+    );
+    let mut into = [0u64; 64];
+    let mut outof = [0u64; 64];
+    final_marks(s, reached, reaching, &mark, &mut into, &mut outof);
+    let price = final_price(s, &full, &arc_reads);
+    let mut paths = [[0u8; 64]; 464];
+    let mut sizes = [0usize; 464];
+    let mut weights = [0u64; 464];
+    let found = take_paths(
+        s,
+        count,
+        &from,
+        &to,
+        &rows,
+        &lens,
+        &mut full,
+        &mut paths,
+        &mut sizes,
+        &mut weights,
+    );
+    write_answer(
+        out,
+        n,
+        price,
+        &into,
+        &outof,
+        &paths,
+        &sizes,
+        &weights,
+        found,
+    )
+}
+
+// Builds a lowest-price cover of the graph and writes its answer form at the front of the output, or says why not: 1 to 7 where the graph does not read, then 8, then 9.
+pub fn build(graph: &[u8], out: &mut [u8]) -> Built
+    ensures { λ r. ⌜ BuildPromise (now (graph .entry)) (now (out .entry)) (now (out .exit)) r ⌝ }
+{
+    let read = read_graph(graph);
+    if read.number != 0 {
+        return Built {
+            number: read.number,
+            place: read.place,
+            written: 0,
+        };
+    }
+    let mut reached = [false; 64];
+    let mut reaching = [false; 64];
+    reach_from_starts(graph, &mut reached);
+    reach_ends(graph, &mut reaching);
+    let lacking = first_lacking(graph, &reached, &reaching);
+    if lacking.number != 0 {
+        return Built {
+            number: lacking.number,
+            place: lacking.place,
+            written: 0,
+        };
+    }
+    if out.len() < 32_543 {
+        return Built {
+            number: 9,
+            place: 0,
+            written: 0,
+        };
+    }
+    let written = answer(graph, &reached, &reaching, out);
+    Built {
+        number: 0,
+        place: 0,
+        written,
+    }
+}

@@ -1,0 +1,23 @@
+// The builder: from graph bytes to the answer form of a lowest-price cover. It sees only what the reader and checker publish, and the mathematics.
+
+// What a call to build answers: the refusal's number and place (both 0 where nothing is refused), and how many bytes it wrote at the front of the output.
+pub struct Built {
+    pub number: usize,
+    pub place: usize,
+    pub written: usize,
+}
+
+// A bare network and the flow of lowest cost in it: it knows nothing of graphs and reads.
+mod network;
+// Which vertices lie on paths, and the first item that asks and does not.
+mod reach;
+// Weighted paths from the loads.
+mod peel;
+// The paths that are taken off, merged in order.
+mod collect;
+// What a build ends with: marks, price, and the answer form in the output.
+mod finish;
+// Lays the working network of a graph form: edges, first loads, live nodes, surpluses and deficits.
+mod setup;
+// The builder's call.
+pub mod build;
