@@ -1,0 +1,75 @@
+-- `assemble::assemble` meets its contract: a law for each way through it. The lent answer has the bytes that the builder asks for.
+-- Assumes nothing.
+use Prim.Native.Nat.{ℕ}
+use native.Mathlib.Omega.{arith}
+use mathlib.Core.Path.{sym}
+use lib.ListN.{length-replicate}
+use lib.Seq.{length-take-le}
+use borrow.Author.Needs.{needs}
+use Rattle.builder.specs.Build.{roomAsked}
+use Rattle.assemble.proofs.Laws.{lists-too-long, lists-refused, lists-built}
+use Rattle.assemble.proofs.assemble.Statement.{statement}
+use Rattle.assemble.proofs.assemble.Tie as tie
+
+list-refusal-requires : tie.Need-list-refusal-requires
+list-refusal-requires c κs = search needs
+
+same-length : tie.Need-same-length
+same-length c = search needs
+
+returns : tie.Need-returns
+returns c = lists-too-long (c .before .before .before .before .if1 .taken) (c .before .before .list-refusal .ensures .0)
+
+slice-aggregate-build : tie.Need-slice-aggregate-build
+slice-aggregate-build c = search needs
+
+build-requires : tie.Need-build-requires
+build-requires c κs = search needs
+
+list-refusal-requires-2 : tie.Need-list-refusal-requires-2
+list-refusal-requires-2 c κs = search needs
+
+same-length-2 : tie.Need-same-length-2
+same-length-2 c = search needs
+
+returns-2 : tie.Need-returns-2
+returns-2 c =
+    let l = c .before .before .before .before .before .before .before in
+    lists-refused (length-replicate {A = ℕ} roomAsked 0) (l .build .ensures) (l .before .before .if1 .left) (c .before .before .before .before .if2 .taken) (c .before .before .list-refusal2 .ensures .0)
+
+array-share-prefix-answer : tie.Need-array-share-prefix-answer
+array-share-prefix-answer c = search needs
+
+slice-aggregate-list-cover : tie.Need-slice-aggregate-list-cover
+slice-aggregate-list-cover c =
+    let p = c .before .before .before .before .build .ensures in
+    sym (length-take-le _ _ (omega (arith, p .fits, p .same-length)))
+
+list-cover-requires : tie.Need-list-cover-requires
+list-cover-requires c κs = search needs
+
+same-length-3 : tie.Need-same-length-3
+same-length-3 c = search needs
+
+returns-3 : tie.Need-returns-3
+returns-3 c =
+    let l = c .before .before .before .before .before .before .before .before in
+    lists-built (length-replicate {A = ℕ} roomAsked 0) (l .build .ensures) (l .before .before .if1 .left) (c .before .before .before .before .before .if2 .left) (c .before .before .list-cover .ensures)
+
+pub assemble-spec : {M : Type 1} → statement M
+assemble-spec =
+    tie.close
+    (tie.spec
+    list-refusal-requires
+    same-length
+    returns
+    slice-aggregate-build
+    build-requires
+    list-refusal-requires-2
+    same-length-2
+    returns-2
+    array-share-prefix-answer
+    slice-aggregate-list-cover
+    list-cover-requires
+    same-length-3
+    returns-3)
