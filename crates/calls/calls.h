@@ -25,6 +25,10 @@ uint64_t hand_out_number(const uint8_t *graph, size_t graph_len, const uint8_t *
  * is shorter than the path. 64 bytes do. */
 uint64_t hand_out_path(const uint8_t *graph, size_t graph_len, const uint8_t *answer, size_t answer_len, uint64_t k, uint8_t *out, size_t out_len);
 
+/* Numbers 1 to 9. Writes the answer form of a lowest-price cover at the front of out and stores how many bytes; stores 0 and changes no
+ * byte of out where it refuses. 32,543 bytes do. */
+uint64_t build_answer_form(const uint8_t *graph, size_t graph_len, uint8_t *out, size_t out_len, uint64_t *place, uint64_t *written);
+
 #ifdef __cplusplus
 }
 #endif

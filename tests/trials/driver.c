@@ -21,10 +21,6 @@
 
 #include "../../crates/calls/calls.h"
 
-/* The builder's call comes with the builder; until then its trials are left out. */
-extern uint64_t build_answer_form(const uint8_t *graph, size_t graph_len, uint8_t *out, size_t out_len, uint64_t *place, uint64_t *written)
-    __attribute__((weak));
-
 enum { PAGE = 4096, PAGES = 10, SPACE = PAGE * PAGES };
 
 struct lent {
@@ -103,11 +99,7 @@ static void look_at_output(const struct lent *out, uint64_t number, uint64_t cou
     if (changed(out, own) >= 0) say_changed("out", changed(out, own));
 }
 
-int main(int argc, char **argv) {
-    if (argc > 1 && strcmp(argv[1], "--calls") == 0) {
-        printf(build_answer_form == NULL ? "rch\n" : "rchb\n");
-        return 0;
-    }
+int main(void) {
     struct lent graph = lend(), answer = lend(), out = lend();
     kept[0] = malloc(SPACE);
     kept[1] = malloc(SPACE);

@@ -118,10 +118,7 @@ def tried(driver):
 if __name__ == "__main__":
     caught = 0
     trials.SHOWN = 1
-    with open(os.path.join(ROOT, "crates", "calls", "src", "lib.rt")) as f:
-        there = f.read()
-    wrong = [(what, call, body) for what, call, body in WRONG if f"fn {call}(" in there]
-    for what, call, body in wrong:
+    for what, call, body in WRONG:
         print(f"== {what}", flush=True)
         with tempfile.TemporaryDirectory() as temporary:
             folder = os.path.join(temporary, "copy")
@@ -134,5 +131,5 @@ if __name__ == "__main__":
             failed = tried(os.path.join(folder, "tests", "trials", "built", "run"))
             caught += failed > 0
             print(f"== {'caught: ' + str(failed) + ' cases failed' if failed else 'NOT CAUGHT'}: {what}", flush=True)
-    print(f"{caught} passed, {len(wrong) - caught} failed")
-    sys.exit(caught != len(wrong))
+    print(f"{caught} passed, {len(WRONG) - caught} failed")
+    sys.exit(caught != len(WRONG))

@@ -6,6 +6,7 @@ ghost use mathlib.Core.List.{_++_};
 ghost use lib.ListN.{length, drop};
 ghost use Rattle.checker.specs.GraphFaults.{refusal, graphVerdict};
 ghost use Rattle.checker.specs.Check.{checkVerdict, handOutVerdict, handedOut};
+ghost use Rattle.builder.specs.Build.{BuildPromise};
 ghost use Rattle.calls.specs.Copied.{copied, copiedCount};
 
 // Reads a graph form: numbers 1 to 7.
@@ -67,4 +68,20 @@ pub extern "C" fn hand_out_path(graph: &[u8], answer: &[u8], k: u64, out: &mut [
 {
     let part = checker::check::hand_out(graph, answer, k as usize);
     copy_where_room(part, out) as u64
+}
+
+// Writes the answer form of a lowest-price cover at the front of the output and stores how many bytes it has: numbers 1 to 9.
+#[no_mangle]
+pub extern "C" fn build_answer_form(
+    graph: &[u8],
+    out: &mut [u8],
+    place: &mut u64,
+    written: &mut u64,
+) -> u64
+    ensures { λ r. ⌜ BuildPromise (now (graph .entry)) (now (out .entry)) (now (out .exit)) (record { number = r; place = now (place .exit); written = now (written .exit) }) ⌝ }
+{
+    let built = builder::build::build(graph, out);
+    *place = built.place as u64;
+    *written = built.written as u64;
+    built.number as u64
 }
