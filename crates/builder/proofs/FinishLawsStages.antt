@@ -15,9 +15,9 @@ use Rattle.mathematics.specs.Prepare.{prepare}
 use Rattle.checker.specs.GraphForm.{vertexCount, arcCount}
 use Rattle.checker.specs.GraphOf.{graphOf}
 use Rattle.checker.specs.GraphReads.{Reads}
-use Rattle.checker.specs.ReadTable.{rowsOf, Leaves}
+use Rattle.reads.specs.ReadTable.{rowsOf, Leaves}
 use Rattle.checker.specs.Certify.{Counted, TableSized, CountsLow}
-use Rattle.checker.proofs.TableRows.{table-length}
+use Rattle.reads.proofs.TableRows.{table-length}
 use Rattle.builder.specs.Network.{at, sumTo, leaving, entering, base, Keys, Chained, Shape, Waiting, Carried}
 use Rattle.builder.specs.Slots.{preparedOf, plainSlots, allSlots, firstLoad}
 use Rattle.builder.specs.Lay.{EdgesLaid, LoadsLaid, LiveLaid, Summable, Tallied, Balanced}

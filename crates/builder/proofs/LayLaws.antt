@@ -15,9 +15,9 @@ use Rattle.checker.specs.Bytes.{byte, be32}
 use Rattle.checker.specs.GraphForm.{vertexCount, arcCount, openingPrice, flags, arcAt, arcTail, arcHead, arcCost}
 use Rattle.checker.specs.GraphOf.{graphOf}
 use Rattle.checker.specs.GraphReads.{Reads}
-use Rattle.checker.specs.ReadTable.{rowAt, Leaves}
-use Rattle.checker.proofs.TableLaws.{row-get, last-get}
-use Rattle.checker.proofs.TableRows.{table-length, table-get, table-row}
+use Rattle.reads.specs.ReadTable.{rowAt, Leaves}
+use Rattle.reads.proofs.TableLaws.{row-get, last-get}
+use Rattle.reads.proofs.TableRows.{table-length, table-get, table-row}
 use Rattle.builder.specs.Network.{at}
 use Rattle.builder.specs.Slots.{preparedOf, plainSlots, allSlots, acrossSlot, openingSlot, closingSlot, readingSlot, linkAt, inUse, edgeFrom, edgeTo, edgeCost}
 use Rattle.builder.specs.Setup.{Counted, Tells}

@@ -21,7 +21,7 @@ use Rattle.checker.specs.GraphForm.{vertexCount, arcCount, arcAt, arcTail, arcH
 use Rattle.checker.specs.GraphOf.{graphOf, vertexOf, arcOf}
 use Rattle.checker.specs.GraphReads.{Reads}
 use Rattle.checker.proofs.GraphFacts.{length-tabulate, graph-well-formed, graph-within}
-use Rattle.checker.proofs.TableLaws.{at-all}
+use Rattle.reads.proofs.TableLaws.{at-all}
 use Rattle.builder.specs.Network.{at}
 use Rattle.builder.specs.Slots.{preparedOf, plainSlots, allSlots, openingSlot, closingSlot, readingSlot, linkAt, inUse, edgeFrom, edgeTo}
 use Rattle.builder.specs.Peel.{GoesRound, Circles, Winds}

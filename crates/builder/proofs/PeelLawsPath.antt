@@ -8,9 +8,9 @@ use lib.ListN.{length, getD, set, take, drop, length-set, length-append, take-ap
 use lib.Seq.{take-suc, take-suc-set, take-take, getD-take, length-take-le}
 use Rattle.mathematics.specs.Lists.{All}
 use Rattle.mathematics.proofs.Links.{Link, inside, linkVertices, pathOf}
-use Rattle.checker.specs.ReadTable.{rowAt, RowHolds}
-use Rattle.checker.proofs.TableLaws.{at-all}
-use Rattle.checker.proofs.TableRows.{table-get, table-row}
+use Rattle.reads.specs.ReadTable.{rowAt, RowHolds}
+use Rattle.reads.proofs.TableLaws.{at-all}
+use Rattle.reads.proofs.TableRows.{table-get, table-row}
 use Rattle.builder.specs.Network.{at}
 use Rattle.builder.specs.Slots.{preparedOf, allSlots, linkAt}
 use Rattle.builder.specs.Peel.{ReadsHeld, Written}

@@ -24,7 +24,7 @@ use Rattle.checker.specs.Bytes.{tabulate}
 use Rattle.checker.specs.GraphForm.{vertexCount, arcCount, openingPrice, vertexDemand, arcAt, arcTail, arcHead, arcCost, arcDemand}
 use Rattle.checker.specs.GraphOf.{vertexOf, arcOf, graphOf}
 use Rattle.checker.specs.GraphReads.{Reads}
-use Rattle.checker.proofs.TableLaws.{at-all}
+use Rattle.reads.proofs.TableLaws.{at-all}
 use Rattle.checker.proofs.GraphFacts.{graph-well-formed, graph-within}
 use Rattle.checker.proofs.GraphRange.{vertices-length}
 use Rattle.builder.specs.Network.{at, liveAt, sumTo, Way, stop, step, base, reach, Shape, Keys, Waiting, leaving, entering, share}

@@ -17,7 +17,7 @@ use Rattle.checker.specs.Bytes.{tabulate}
 use Rattle.checker.specs.GraphForm.{vertexCount}
 use Rattle.checker.specs.GraphOf.{graphOf}
 use Rattle.checker.specs.GraphReads.{Reads}
-use Rattle.checker.specs.ReadTable.{Leaves}
+use Rattle.reads.specs.ReadTable.{Leaves}
 use Rattle.checker.specs.AnswerFaults.{listBefore}
 use Rattle.builder.specs.declared.collect.Spot.{Spot}
 use Rattle.builder.specs.Network.{at, sumTo, leaving, entering, Chained}

@@ -12,7 +12,7 @@ use Rattle.mathematics.specs.Reach.{useful}
 use Rattle.checker.specs.GraphForm.{vertexCount}
 use Rattle.checker.specs.GraphOf.{graphOf}
 use Rattle.checker.specs.GraphReads.{Reads}
-use Rattle.checker.specs.ReadTable.{Leaves}
+use Rattle.reads.specs.ReadTable.{Leaves}
 use Rattle.builder.specs.Network.{at, base}
 use Rattle.builder.specs.Slots.{preparedOf, allSlots}
 use Rattle.builder.specs.Setup.{Tells}

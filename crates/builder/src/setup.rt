@@ -12,7 +12,7 @@ ghost use Rattle.mathematics.specs.Reach.{useful};
 ghost use Rattle.checker.specs.GraphForm.{vertexCount, arcCount};
 ghost use Rattle.checker.specs.GraphOf.{graphOf};
 ghost use Rattle.checker.specs.GraphReads.{Reads};
-ghost use Rattle.checker.specs.ReadTable.{Leaves};
+ghost use Rattle.reads.specs.ReadTable.{Leaves};
 ghost use Rattle.builder.specs.Network.{at};
 ghost use Rattle.builder.specs.Slots.{preparedOf, plainSlots, allSlots};
 ghost use Rattle.builder.specs.Setup.{Tells};

@@ -21,13 +21,13 @@ use Rattle.checker.specs.GraphOf.{arcsOf}
 use Rattle.checker.specs.GraphReads.{ArcsRight}
 use Rattle.checker.specs.ArcTable.{arcNumber}
 use Rattle.checker.specs.Tallies.{arcItem, onward, Grown, NothingTallied}
-use Rattle.checker.specs.ReadTable.{rowAt, rowsOf, ReadHolds, RowHolds, TableHolds}
+use Rattle.reads.specs.ReadTable.{rowAt, rowsOf, ReadHolds, RowHolds, TableHolds}
 use Rattle.checker.specs.Certify.{CountsLow, ArcPassed, Counted}
 use Rattle.checker.proofs.AnswerWalk.{found-arc, only-arc, grow, count-few, trail-onward, length-onward}
 use Rattle.checker.proofs.Lookup.{found-iff-goes}
 use Rattle.mathematics.specs.Lists.{All}
-use Rattle.checker.proofs.TableLaws.{row-get, at-all, all-at}
-use Rattle.checker.proofs.TableRows.{table-length, table-get, table-from, table-row}
+use Rattle.reads.proofs.TableLaws.{row-get, at-all, all-at}
+use Rattle.reads.proofs.TableRows.{table-length, table-get, table-from, table-row}
 
 module _ (s : List ℕ) (right : ArcsRight s) (u v : ℕ) (counts : List ℕ) (long : length counts ≡ maxArcs) where
   -- no arc goes from u to v: no arc is counted

@@ -17,12 +17,12 @@ use Rattle.checker.specs.Limits.{maxVertices}
 use Rattle.checker.specs.GraphForm.{readCount, vertexCount, firstReadAt, readVertices, readEnd}
 use Rattle.checker.specs.GraphOf.{graphOf, readsFrom, arcsOf}
 use Rattle.checker.specs.GraphReads.{Reads, ReadRight, ReadsRight}
-use Rattle.checker.specs.ReadTable.{rowsOf, used, ReadHolds, TableHolds, Leaves}
+use Rattle.reads.specs.ReadTable.{rowsOf, used, ReadHolds, TableHolds, Leaves}
 use Rattle.checker.specs.Certify.{TableSized}
 use Rattle.checker.proofs.GraphFacts.{all-reads, read-length, graph-well-formed}
-use Rattle.checker.proofs.TableLaws.{rising-climbs}
-use Rattle.checker.proofs.TableRows.{used-set, used-rows}
-use Rattle.checker.proofs.DropLaws.{all-set}
+use Rattle.reads.proofs.TableLaws.{rising-climbs}
+use Rattle.reads.proofs.TableRows.{used-set, used-rows}
+use Rattle.reads.proofs.DropLaws.{all-set}
 
 -- one byte more of a row
 pub row-turn : (s row : List ℕ) (at i : ℕ) → take i row ≡ part s at i → i < length row → at + i < length s → take (i + 1) (set row i (getD s (at + i) 0)) ≡ part s at (i + 1)

@@ -8,8 +8,6 @@ pub mod AnswerWalk
 pub mod AnswerPaths
 pub mod ArcLaws
 -- Laws that the proofs of functions cite.
-pub mod TableLaws
-pub mod OverlapLaws
 pub mod CertifyLawsBound
 pub mod CertifyLawsTotal
 pub mod CertifyLawsVerdict
@@ -26,13 +24,6 @@ pub mod ThenLaws
 pub mod GraphReads
 pub mod GraphFacts
 pub mod Lookup
--- The laws of the table of reads.
-pub mod TableRows
-pub mod DropLaws
-pub mod LongestLaws
-pub mod JoinLaws
-pub mod JoinedRead
-pub mod PrepareLaws
 -- The theorems of the checker: what a verdict of 0 says, soundness, the marked rows, the answer form written and read back, completeness, the hand-out.
 pub mod Accepted
 pub mod Ascending

@@ -8,7 +8,6 @@ pub mod AnswerFaults
 pub mod Check
 pub mod GraphReads
 pub mod ArcTable
-pub mod ReadTable
 pub mod Certify
 pub mod Empty
 pub mod Tallies

@@ -5,7 +5,6 @@ pub mod bytes;
 pub mod certify;
 pub mod check;
 pub mod reader;
-pub mod reads;
 
 ghost use mathlib.Core.Path.{_≡_};
 ghost use Rattle.checker.specs.GraphFaults.{refusal};

@@ -1,7 +1,7 @@
 -- `builder::peel::put_link` meets its contract. Assumes nothing.
 use Prim.Native.Nat.{_<_, _-_}
 use native.Mathlib.Omega.{arith}
-use Rattle.checker.specs.ReadTable.{RowHolds}
+use Rattle.reads.specs.ReadTable.{RowHolds}
 use Rattle.builder.proofs.PeelLawsPath.{vertex-room, read-holds, read-room, put-vertex, put-none, put-read}
 use Rattle.builder.proofs.peel.put_link.Statement.{statement}
 use Rattle.builder.proofs.peel.put_link.Tie as tie

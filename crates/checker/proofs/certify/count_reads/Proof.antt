@@ -1,8 +1,8 @@
 -- `checker::certify::count_reads` counts the reads of the table, a row a turn: with those left, the counts are those of all.
 use Prim.Native.Nat.{_-_}
-use Rattle.checker.specs.ReadTable.{rowsOf}
+use Rattle.reads.specs.ReadTable.{rowsOf}
 use Rattle.checker.proofs.CertifyLawsCount.{ReadsLeft, reads-begin, reads-low, reads-turn, reads-end}
-use Rattle.checker.proofs.TableRows.{table-row}
+use Rattle.reads.proofs.TableRows.{table-row}
 use borrow.Author.Needs.{needs}
 use Rattle.checker.proofs.certify.count_reads.Statement.{statement}
 use Rattle.checker.proofs.certify.count_reads.Tie as tie

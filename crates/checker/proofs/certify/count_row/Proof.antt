@@ -5,7 +5,7 @@ use Prim.Native.Nat.{_-_, _≤_}
 use mathlib.Core.Path.{_≡_, sym, _∙_}
 use native.Mathlib.Omega.{arith}
 use lib.ListN.{length, getD}
-use Rattle.checker.specs.ReadTable.{rowAt}
+use Rattle.reads.specs.ReadTable.{rowAt}
 use Rattle.checker.proofs.CertifyLawsCount.{CountLeft, count-begin, vertex-room, arc-room, count-turn, count-end}
 use borrow.Author.Needs.{needs}
 use Rattle.checker.proofs.certify.count_row.Statement.{statement}
