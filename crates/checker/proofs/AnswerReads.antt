@@ -1,16 +1,17 @@
--- Which reads a path of an answer holds: laws for the loops that compare a read with a path, and for the loop over the reads.
+-- Which reads a path of an answer holds: laws for the loop that looks for a read along a path, and for the loop over the reads.
 use Prim.Native.Nat.{ℕ, suc, _+_, _-_, _<_, _≤_}
 use native.Mathlib.Nat.{le-refl, zero-add, add-zero, sub-zero}
 use native.Mathlib.Decide.{decLt}
 use native.Mathlib.Omega.{arith}
-use mathlib.Core.Path.{_≡_, refl, sym, _∙_}
+use mathlib.Core.Path.{_≡_, refl, sym, ap, ap₂, _∙_}
 use mathlib.Core.List.{List, [], _∷_}
-use mathlib.Core.Bool.{Bool, true, false, _&&_, _||_}
+use mathlib.Core.Bool.{Bool, true, false, _&&_, _||_, or-false}
 use lib.Dec.{eqb}
 use lib.ListN.{length, getD, set, length-take, length-drop, length-set}
 use lib.Seq.{getD-set-same, getD-set-other}
 use borrow.Author.Tests.{eq-eqb, ne-eqb}
-use Rattle.mathematics.specs.Lists.{begins, holds}
+use Rattle.mathematics.specs.Lists.{All, begins, holds}
+use Rattle.mathematics.proofs.Parts.{Rising}
 use Rattle.checker.specs.Bytes.{byte, part}
 use Rattle.checker.specs.GraphForm.{readCount, firstReadAt, readLength, readVertices, readEnd}
 use Rattle.checker.specs.GraphOf.{readsFrom}
@@ -18,92 +19,113 @@ use Rattle.checker.specs.GraphReads.{Reads, ReadRight, ReadsRight}
 use Rattle.checker.specs.Tallies.{readOf, Marked}
 use Rattle.checker.proofs.AnswerLaws.{part-cons, part-none}
 
-pub and-false : (x : Bool) → (x && false) ≡ false
-and-false true = refl
-and-false false = refl
-
--- a shorter list neither begins with a longer one nor holds it
-begins-longer : (r p : List ℕ) → length p < length r → begins r p ≡ false
-begins-longer [] p h = absurd (omega arith)
-begins-longer (x ∷ r) [] h = refl
-begins-longer (x ∷ r) (y ∷ p) h = rw (begins-longer r p (omega arith)) (and-false (eqb x y))
-
-holds-longer : (p r : List ℕ) → length p < length r → holds p r ≡ false
-holds-longer [] r h = begins-longer r [] h
-holds-longer (y ∷ p) r h = rw (begins-longer r (y ∷ p) h, holds-longer p r (omega arith))
-
 pub part-length : (s : List ℕ) (a n : ℕ) → a + n ≤ length s → length (part s a n) ≡ n
 unfolding part
 part-length s a n h = simp (length-take, length-drop) (omega arith)
 
--- A read and the rest of a path are the same up to i, and what is left of them decides.
-pub record BeginsLeft (s : List ℕ) (a la : ℕ) (t : List ℕ) (b lb i : ℕ) : Type 0 where
-  pub within : (a + la ≤ length s) × (b + lb ≤ length t) × (la ≤ lb) × (i ≤ la)
-  pub decide : begins (part s a la) (part t b lb) ≡ begins (part s (a + i) (la - i)) (part t (b + i) (lb - i))
+-- a list whose numbers are all above v holds nothing that begins with v
+holds-above : (v : ℕ) (r p : List ℕ) → All (λ (w : ℕ). v < w) p → holds p (v ∷ r) ≡ false
+holds-above v r [] h = refl
+holds-above v r (y ∷ p) h =
+    let differs : eqb v y ≡ false = ne-eqb v y (λ e. omega (arith, h .0)) in
+    rw (differs, holds-above v r p (h .1))
 
-pub begins-begin : (s : List ℕ) (a la : ℕ) (t : List ℕ) (b lb : ℕ) → (a + la ≤ length s) × (b + lb ≤ length t) × (la ≤ lb) → BeginsLeft s a la t b lb 0
-begins-begin s a la t b lb h = record { within = omega arith; decide = simp (add-zero, sub-zero) }
+-- what is left of n bytes at a behind the first i
+abbrev pub left : List ℕ → ℕ → ℕ → ℕ → List ℕ
+left s a n i = part s (a + i) (n - i)
 
-module _ {s : List ℕ} {a la : ℕ} {t : List ℕ} {b lb i : ℕ} (inv : BeginsLeft s a la t b lb i) where
-  module _ (more : i < la) where
-    begins-split : begins (part s a la) (part t b lb) ≡ (eqb (byte s (a + i)) (byte t (b + i)) && begins (part s (a + i + 1) (la - i - 1)) (part t (b + i + 1) (lb - i - 1)))
-    begins-split =
-        inv .decide
-        ∙ rw (
-          part-cons s (a + i) (la - i) (omega arith) (omega arith),
-          part-cons t (b + i) (lb - i) (omega arith) (omega arith),
-        )
+left-all : (s : List ℕ) (a n i : ℕ) → i ≡ 0 → part s a n ≡ left s a n i
+left-all s a n i e = simp (e, add-zero, sub-zero)
 
-    pub begins-stop : (byte s (a + i) ≡ byte t (b + i) → ⊥) → false ≡ begins (part s a la) (part t b lb)
-    begins-stop h = sym (begins-split ∙ simp (ne-eqb _ _ h))
+left-cons : (s : List ℕ) (a n i : ℕ) → a + n ≤ length s → i < n → left s a n i ≡ byte s (a + i) ∷ left s a n (i + 1)
+left-cons s a n i h l =
+    let e₁ : a + i + 1 ≡ a + (i + 1) = omega arith in
+    let e₂ : n - i - 1 ≡ n - (i + 1) = omega arith in
+    rw (← e₁, ← e₂) (part-cons s (a + i) (n - i) (omega arith) (omega arith))
 
-    pub begins-turn : byte s (a + i) ≡ byte t (b + i) → BeginsLeft s a la t b lb (i + 1)
-    begins-turn e =
-        let e₁ : a + i + 1 ≡ a + (i + 1) = omega arith in
-        let e₂ : b + i + 1 ≡ b + (i + 1) = omega arith in
-        let e₃ : la - i - 1 ≡ la - (i + 1) = omega arith in
-        let e₄ : lb - i - 1 ≡ lb - (i + 1) = omega arith in
-        record { within = omega arith; decide = begins-split ∙ simp (eq-eqb _ _ e, e₁, e₂, e₃, e₄) }
+-- The first i vertices of the read were met right before j, so that its others stand there or it is nowhere; where none was met, the rest of the path decides.
+pub record HoldsLeft (s : List ℕ) (a la : ℕ) (t : List ℕ) (b lb i j : ℕ) : Type 0 where
+  pub within : (a + la ≤ length s) × (b + lb ≤ length t) × (i < la) × (j ≤ lb)
+  pub rises : Rising (left t b lb j)
+  pub none : i ≡ 0 → holds (part t b lb) (part s a la) ≡ holds (left t b lb j) (part s a la)
+  pub some : 0 < i → holds (part t b lb) (part s a la) ≡ begins (left s a la i) (left t b lb j)
 
-  pub begins-end : la ≤ i → true ≡ begins (part s a la) (part t b lb)
-  begins-end h =
-      let none : la - i ≡ 0 = omega arith in
-      sym (inv .decide ∙ rw (none, part-none))
+pub holds-begin : (s : List ℕ) (a la : ℕ) (t : List ℕ) (b lb : ℕ) → (a + la ≤ length s) × (b + lb ≤ length t) × (0 < la) × Rising (part t b lb) → HoldsLeft s a la t b lb 0 0
+holds-begin s a la t b lb h =
+    record {
+      within = omega arith;
+      rises = simp (add-zero, sub-zero) (h .3);
+      none = λ e. simp (add-zero, sub-zero);
+      some = λ l. absurd (omega arith);
+    }
 
--- No vertex of a path before j is where the read begins, and the rest of the path decides.
-pub record HoldsLeft (s : List ℕ) (a la : ℕ) (t : List ℕ) (b lb j : ℕ) : Type 0 where
-  pub within : (a + la ≤ length s) × (b + lb ≤ length t) × (0 < la) × (j ≤ lb)
-  pub decide : holds (part t b lb) (part s a la) ≡ holds (part t (b + j) (lb - j)) (part s a la)
+module _ {s : List ℕ} {a la : ℕ} {t : List ℕ} {b lb i j : ℕ} (inv : HoldsLeft s a la t b lb i j) where
+  read-split : left s a la i ≡ byte s (a + i) ∷ left s a la (i + 1)
+  read-split = left-cons s a la i (omega arith) (omega arith)
 
-pub holds-begin : (s : List ℕ) (a la : ℕ) (t : List ℕ) (b lb : ℕ) → (a + la ≤ length s) × (b + lb ≤ length t) × (0 < la) × (la < 256) → HoldsLeft s a la t b lb 0
-holds-begin s a la t b lb h = record { within = omega arith; decide = simp (add-zero, sub-zero) }
+  -- where none was met, the whole read is left
+  all-split : i ≡ 0 → part s a la ≡ byte s (a + i) ∷ left s a la (i + 1)
+  all-split e = left-all s a la i e ∙ read-split
 
-module _ {s : List ℕ} {a la : ℕ} {t : List ℕ} {b lb j : ℕ} (inv : HoldsLeft s a la t b lb j) where
   module _ (more : j < lb) where
-    holds-split : holds (part t b lb) (part s a la) ≡ (begins (part s a la) (part t (b + j) (lb - j)) || holds (part t (b + j + 1) (lb - j - 1)) (part s a la))
-    holds-split = inv .decide ∙ rw (part-cons t (b + j) (lb - j) (omega arith) (omega arith))
+    path-split : left t b lb j ≡ byte t (b + j) ∷ left t b lb (j + 1)
+    path-split = left-cons t b lb j (omega arith) (omega arith)
 
-    pub holds-found : begins (part s a la) (part t (b + j) (lb - j)) ≡ true → true ≡ holds (part t b lb) (part s a la)
-    holds-found e = sym (holds-split ∙ rw e)
+    above : Rising (byte t (b + j) ∷ left t b lb (j + 1))
+    above = rw path-split at (inv .rises)
 
-    pub holds-turn : begins (part s a la) (part t (b + j) (lb - j)) ≡ false → HoldsLeft s a la t b lb (j + 1)
-    holds-turn e =
-        let e₁ : b + j + 1 ≡ b + (j + 1) = omega arith in
-        let e₂ : lb - j - 1 ≡ lb - (j + 1) = omega arith in
-        record { within = omega arith; decide = holds-split ∙ rw (e, e₁, e₂) }
+    none-split : i ≡ 0 → holds (part t b lb) (part s a la) ≡ ((eqb (byte s (a + i)) (byte t (b + j)) && begins (left s a la (i + 1)) (left t b lb (j + 1))) || holds (left t b lb (j + 1)) (byte s (a + i) ∷ left s a la (i + 1)))
+    none-split e = inv .none e ∙ ap₂ holds path-split (all-split e)
 
-    pub holds-differs : (byte t (b + j) ≡ byte s a → ⊥) → HoldsLeft s a la t b lb (j + 1)
-    holds-differs h =
-        holds-turn
-        (rw
-        (part-cons s a la (omega arith) (omega arith), part-cons t (b + j) (lb - j) (omega arith) (omega arith))
-        (rw (ne-eqb (byte s a) (byte t (b + j)) (λ e. h (sym e)))))
+    some-split : 0 < i → holds (part t b lb) (part s a la) ≡ (eqb (byte s (a + i)) (byte t (b + j)) && begins (left s a la (i + 1)) (left t b lb (j + 1)))
+    some-split l = inv .some l ∙ ap₂ begins read-split path-split
 
-  pub holds-end : lb < j + la → false ≡ holds (part t b lb) (part s a la)
-  holds-end h =
-      sym
-      (inv .decide
-      ∙ holds-longer (part t (b + j) (lb - j)) (part s a la) (rw (part-length s a la (omega arith), part-length t (b + j) (lb - j) (omega arith)) (omega arith)))
+    module _ (same : byte s (a + i) ≡ byte t (b + j)) where
+      -- the first vertex is met: the path rises, so it is met nowhere behind
+      met-first : i ≡ 0 → holds (part t b lb) (part s a la) ≡ begins (left s a la (i + 1)) (left t b lb (j + 1))
+      met-first e =
+          none-split e
+          ∙ rw (eq-eqb _ _ same, same, holds-above (byte t (b + j)) (left s a la (i + 1)) (left t b lb (j + 1)) (above .0)) (or-false _)
+
+      met : holds (part t b lb) (part s a la) ≡ begins (left s a la (i + 1)) (left t b lb (j + 1))
+      met = go (decLt 0 i)
+        where
+          go : Dec (0 < i) → holds (part t b lb) (part s a la) ≡ begins (left s a la (i + 1)) (left t b lb (j + 1))
+          go (yes l) = some-split l ∙ rw (eq-eqb _ _ same)
+          go (no l) = met-first (omega arith)
+
+      pub holds-found : i + 1 ≡ la → true ≡ holds (part t b lb) (part s a la)
+      holds-found e =
+          let last : la - (i + 1) ≡ 0 = omega arith in
+          sym (met ∙ rw (last, part-none))
+
+      pub holds-met : (i + 1 ≡ la → ⊥) → HoldsLeft s a la t b lb (i + 1) (j + 1)
+      holds-met h = record { within = omega arith; rises = above .1; none = λ e. absurd (omega arith); some = λ l. met }
+
+    module _ (differs : byte s (a + i) ≡ byte t (b + j) → ⊥) where
+      pub holds-broken : 0 < i → false ≡ holds (part t b lb) (part s a la)
+      holds-broken l = sym (some-split l ∙ rw (ne-eqb _ _ differs))
+
+      pub holds-passed : i ≡ 0 → HoldsLeft s a la t b lb i (j + 1)
+      holds-passed e =
+          record {
+            within = omega arith;
+            rises = above .1;
+            none = λ _. none-split e ∙ rw (ne-eqb _ _ differs) (ap (holds (left t b lb (j + 1))) (sym (all-split e)));
+            some = λ l. absurd (omega arith);
+          }
+
+  pub holds-end : lb ≤ j → false ≡ holds (part t b lb) (part s a la)
+  holds-end h = go (decLt 0 i)
+    where
+      nothing : left t b lb j ≡ []
+      nothing =
+          let e : lb - j ≡ 0 = omega arith in
+          rw (e, part-none)
+
+      go : Dec (0 < i) → false ≡ holds (part t b lb) (part s a la)
+      go (yes l) = sym (inv .some l ∙ ap₂ begins read-split nothing)
+      go (no l) = sym (inv .none (omega arith) ∙ ap₂ holds nothing (all-split (omega arith)))
 
 -- The reads before r are marked, those from r on stand from at on and are as they were.
 pub record ReadsLeft (s p : List ℕ) (before met : List Bool) (r at : ℕ) : Type 0 where

@@ -3,10 +3,10 @@ use Prim.Native.Nat.{ℕ, zero, suc, _+_, _-_, _*_, _/_, _%_, _<_, _≤_}
 use native.Mathlib.Nat.{le-refl, zero-add, add-zero, sub-zero, mul-one, mul-zero, mul-add, mul-le-mul-left}
 use native.Mathlib.Decide.{decLt, ℕ-discrete}
 use native.Mathlib.Omega.{arith}
-use mathlib.Core.Path.{_≡_, refl, sym, ap, _∙_}
+use mathlib.Core.Path.{_≡_, refl, sym, ap, subst, _∙_}
 use mathlib.Core.List.{List, [], _∷_}
-use mathlib.Core.Bool.{Bool, true, false, cond, _&&_}
-use lib.Dec.{eqb}
+use mathlib.Core.Bool.{Bool, true, false, cond, _&&_, and-false}
+use lib.Dec.{T, eqb}
 use lib.ListN.{length, getD, set, length-set}
 use lib.Seq.{getD-set-same, getD-set-other}
 use lib.IntN.{ℤ, pos, _+ℤ_, +ℤ-assoc, +ℤ-idl, +ℤ-idr}
@@ -14,6 +14,9 @@ use borrow.Author.Tests.{lt-ltb, le-ltb, eq-eqb, ne-eqb, eqb-true}
 use Rattle.mathematics.specs.Price.{whole}
 use Rattle.mathematics.specs.Graph.{Vertex, noVertex, Arc, joins, hasArc, isStart, isEnd, isPath}
 use Rattle.mathematics.specs.Cover.{Item, vert, arc, sameItem, oneIf, countOf, trail, costOf, arcCosts}
+use Rattle.mathematics.proofs.Basics.{and-r}
+use Rattle.mathematics.proofs.Parts.{Rising}
+use Rattle.mathematics.proofs.Linked.{path-rising}
 use Rattle.checker.specs.declared.Found.the-variants.{At, Missing}
 use Rattle.checker.specs.Bytes.{byte, be32, part, tabulate}
 use Rattle.checker.specs.Limits.{maxVertices, maxArcs, maxCost, maxWeight}
@@ -24,8 +27,8 @@ use Rattle.checker.specs.GraphReads.{ArcsRight, Reads}
 use Rattle.checker.specs.ArcTable.{numberFrom, arcNumber}
 use Rattle.checker.specs.Tallies.{arcItem, onward, goesOnTo, Room, Grown, Walked, PathWalked}
 use Rattle.checker.proofs.AnswerLaws.{part-cons, part-none}
-use Rattle.checker.proofs.AnswerReads.{and-false, part-length}
-use Rattle.checker.proofs.GraphFacts.{ends-differ}
+use Rattle.checker.proofs.AnswerReads.{part-length}
+use Rattle.checker.proofs.GraphFacts.{ends-differ, graph-well-formed}
 use Rattle.checker.proofs.Lookup.{found-iff-goes}
 use Rattle.checker.proofs.WalkLaws.{isAt, found-is}
 
@@ -322,3 +325,9 @@ module _ (s t : List ℕ) (b lb weight : ℕ) (vb ab : List ℕ) (some : 1 ≤ l
             costs = on .costs;
             low-cost = on .low-cost;
           }))
+
+-- what was walked along rightly is a path of the graph, so its vertices rise
+pub walked-rises : {s p : List ℕ} {w : ℕ} {vb va ab aa : List ℕ} {ok : Bool} {cost : ℕ} → Reads s → PathWalked s p w vb va ab aa ok cost → ok ≡ true → Rising p
+walked-rises {s} {p} r walked e =
+    let right : T (allBelow (vertexCount s) p && isPath (graphOf s) p) = subst T (sym e ∙ walked .is-right) tt in
+    path-rising (graphOf s) (graph-well-formed s r) p (and-r (allBelow (vertexCount s) p) (isPath (graphOf s) p) right)

@@ -13,8 +13,9 @@ ghost use mathlib.Core.List.{_∷_};
 ghost use lib.ListN.{length};
 ghost use lib.IntN.{subℕ};
 ghost use mathlib.Core.Bool.{_||_};
-ghost use Rattle.mathematics.specs.Lists.{begins, holds};
+ghost use Rattle.mathematics.specs.Lists.{holds};
 ghost use Rattle.mathematics.specs.Graph.{isStart, isEnd};
+ghost use Rattle.mathematics.proofs.Parts.{Rising};
 ghost use Rattle.checker.specs.Bytes.{part};
 ghost use Rattle.checker.specs.GraphForm.{vertexCount, arcCount, flags, arcAt, arcCost};
 ghost use Rattle.checker.specs.GraphOf.{graphOf};
@@ -155,47 +156,35 @@ fn comes_before(t: &[u8], a: usize, la: usize, b: usize, lb: usize) -> bool
     i < lb
 }
 
-// Whether the lb bytes of t at b begin with the la bytes of s at a.
-fn begins_at(s: &[u8], a: usize, la: usize, t: &[u8], b: usize, lb: usize) -> bool
-    requires { ⌜ (a + la ≤ length (now s)) × (b + lb ≤ length (now t)) × (la ≤ lb) ⌝ }
-    ensures { λ r. ⌜ r ≡ begins (part (now (s .entry)) a la) (part (now (t .entry)) b lb) ⌝ }
-{
-    let mut i = 0;
-    while i < la {
-        let x = s[a + i];
-        let y = t[b + i];
-        if x != y {
-            return false;
-        }
-        i += 1;
-    }
-    true
-}
-
-// Whether the lb bytes of t at b hold the la bytes of s at a consecutively. Only where the first is met the others are compared.
+// Whether the lb bytes of t at b hold the la bytes of s at a consecutively. Those of t rise, so a read that is left after its first vertex stands nowhere else.
 fn holds_read(s: &[u8], a: usize, la: usize, t: &[u8], b: usize, lb: usize) -> bool
-    requires { ⌜ (a + la ≤ length (now s)) × (b + lb ≤ length (now t)) × (0 < la) × (la < 256) ⌝ }
+    requires { ⌜ (a + la ≤ length (now s)) × (b + lb ≤ length (now t)) × (0 < la) × Rising (part (now t) b lb) ⌝ }
     ensures { λ r. ⌜ r ≡ holds (part (now (t .entry)) b lb) (part (now (s .entry)) a la) ⌝ }
 {
-    let first = s[a];
+    // How many of the read's vertices were met, one right behind the other.
+    let mut i = 0;
     let mut j = 0;
-    while j + la <= lb {
+    while j < lb {
+        let x = s[a + i];
         let y = t[b + j];
-        if y != first {
-            j += 1;
+        j += 1;
+        if x == y {
+            i += 1;
+            if i == la {
+                return true;
+            }
             continue;
         }
-        if begins_at(s, a, la, t, b + j, lb - j) {
-            return true;
+        if 0 < i {
+            return false;
         }
-        j += 1;
     }
     false
 }
 
 // Whether a read that was met by a path before, or not, is met now: the path is looked at only where the read was not.
 fn met_now(met: bool, s: &[u8], a: usize, la: usize, t: &[u8], b: usize, lb: usize) -> bool
-    requires { ⌜ (a + la ≤ length (now s)) × (b + lb ≤ length (now t)) × (0 < la) × (la < 256) ⌝ }
+    requires { ⌜ (a + la ≤ length (now s)) × (b + lb ≤ length (now t)) × (0 < la) × Rising (part (now t) b lb) ⌝ }
     ensures { λ r. ⌜ r ≡ (met || holds (part (now (t .entry)) b lb) (part (now (s .entry)) a la)) ⌝ }
 {
     if met {
@@ -206,7 +195,7 @@ fn met_now(met: bool, s: &[u8], a: usize, la: usize, t: &[u8], b: usize, lb: usi
 
 // Marks the reads that the path of lb vertices at b holds. Reads are walked by their records.
 fn mark_reads(s: &[u8], t: &[u8], b: usize, lb: usize, met: &mut [bool; Graph::MAX_READS])
-    requires { ⌜ Reads (now s) × (b + lb ≤ length (now t)) × (length (now met) ≡ maxReads) ⌝ }
+    requires { ⌜ Reads (now s) × (b + lb ≤ length (now t)) × (length (now met) ≡ maxReads) × Rising (part (now t) b lb) ⌝ }
     ensures { λ r. ⌜ Marked (now (s .entry)) (part (now (t .entry)) b lb) (now (met .entry)) (now (met .exit)) ⌝ }
 {
     let count = wide(s[Graph::AT_READS]);

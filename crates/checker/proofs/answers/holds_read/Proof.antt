@@ -1,26 +1,24 @@
--- `checker::answers::holds_read` looks for the read in the path: what is left of the path decides.
-use mathlib.Core.Path.{_≡_, sym, _∙_}
-use lib.ListN.{getD}
+-- `checker::answers::holds_read` walks once along the path: what is left of the read and of the path decides.
 use Prim.Native.Nat.{_-_}
-use Rattle.checker.proofs.AnswerReads.{HoldsLeft, holds-begin, holds-found, holds-turn, holds-differs, holds-end}
+use Rattle.checker.proofs.AnswerReads.{HoldsLeft, holds-begin, holds-found, holds-met, holds-broken, holds-passed, holds-end}
 use borrow.Author.Needs.{needs}
 use Rattle.checker.proofs.answers.holds_read.Statement.{statement}
 use Rattle.checker.proofs.answers.holds_read.Tie as tie
 
 abbrev Inv-loop : tie.InvT-loop
-Inv-loop s a la t b lb first j₀ j = HoldsLeft s a la t b lb j × (first ≡ getD s a 0)
+Inv-loop s a la t b lb i₀ j₀ i j = HoldsLeft s a la t b lb i j
 
 abbrev μ-loop : tie.MeasureT-loop
-μ-loop s a la t b lb first j₀ j = lb - j
-
-shared-slice-read-first : tie.Need-shared-slice-read-first Inv-loop μ-loop
-shared-slice-read-first c = search needs
+μ-loop s a la t b lb i₀ j₀ i j = lb - j
 
 loop-holds : tie.Need-loop-holds Inv-loop μ-loop
-loop-holds c = (holds-begin _ _ _ _ _ _ (c .before .before .before .pre), search needs)
+loop-holds c = holds-begin _ _ _ _ _ _ (c .pre)
 
-add-loop : tie.Need-add-loop Inv-loop μ-loop
-add-loop c = search needs
+add-x : tie.Need-add-x Inv-loop μ-loop
+add-x c = search needs
+
+shared-slice-read-x : tie.Need-shared-slice-read-x Inv-loop μ-loop
+shared-slice-read-x c = search needs
 
 add-y : tie.Need-add-y Inv-loop μ-loop
 add-y c = search needs
@@ -31,35 +29,29 @@ shared-slice-read-y c = search needs
 add-j : tie.Need-add-j Inv-loop μ-loop
 add-j c = search needs
 
+add-i : tie.Need-add-i Inv-loop μ-loop
+add-i c = search needs
+
+returns : tie.Need-returns Inv-loop μ-loop
+returns c = holds-found (c .before .before .before .before .before .loop .inv) (search needs) (search needs) (search needs)
+
 loop-less : tie.Need-loop-less Inv-loop μ-loop
 loop-less c = search needs
 
 loop-again : tie.Need-loop-again Inv-loop μ-loop
-loop-again c = (holds-differs (c .before .before .before .loop .inv .0) (search needs) (search needs), search needs)
+loop-again c = holds-met (c .before .before .before .before .before .loop .inv) (search needs) (search needs) (search needs)
 
-add-begins-at : tie.Need-add-begins-at Inv-loop μ-loop
-add-begins-at c = search needs
-
-sub-begins-at : tie.Need-sub-begins-at Inv-loop μ-loop
-sub-begins-at c = search needs
-
-begins-at-requires : tie.Need-begins-at-requires Inv-loop μ-loop
-begins-at-requires c κs = search needs
-
-returns : tie.Need-returns Inv-loop μ-loop
-returns c = holds-found (c .before .before .before .before .before .loop .inv .0) (search needs) (sym (c .before .begins-at .ensures) ∙ c .if2 .taken)
-
-add-j-2 : tie.Need-add-j-2 Inv-loop μ-loop
-add-j-2 c = search needs
+returns-2 : tie.Need-returns-2 Inv-loop μ-loop
+returns-2 c = holds-broken (c .before .before .before .before .before .loop .inv) (search needs) (search needs) (search needs)
 
 loop-less-2 : tie.Need-loop-less-2 Inv-loop μ-loop
 loop-less-2 c = search needs
 
 loop-again-2 : tie.Need-loop-again-2 Inv-loop μ-loop
-loop-again-2 c = (holds-turn (c .before .before .before .before .before .loop .inv .0) (search needs) (sym (c .before .begins-at .ensures) ∙ c .if2 .left), search needs)
+loop-again-2 c = holds-passed (c .before .before .before .before .before .loop .inv) (search needs) (search needs) (search needs)
 
-returns-2 : tie.Need-returns-2 Inv-loop μ-loop
-returns-2 c = holds-end (c .before .loop .inv .0) (search needs)
+returns-3 : tie.Need-returns-3 Inv-loop μ-loop
+returns-3 c = holds-end (c .before .loop .inv) (search needs)
 
 pub holds-read-spec : {M : Type 1} → statement M
 holds-read-spec =
@@ -67,19 +59,17 @@ holds-read-spec =
     (tie.spec
     Inv-loop
     μ-loop
-    shared-slice-read-first
     loop-holds
-    add-loop
+    add-x
+    shared-slice-read-x
     add-y
     shared-slice-read-y
     add-j
+    add-i
+    returns
     loop-less
     loop-again
-    add-begins-at
-    sub-begins-at
-    begins-at-requires
-    returns
-    add-j-2
+    returns-2
     loop-less-2
     loop-again-2
-    returns-2)
+    returns-3)

@@ -58,7 +58,9 @@ add-met-now : tie.Need-add-met-now Inv-loop μ-loop
 add-met-now c = omega (arith, reads-next (c .before .before .before .before .loop .inv .0) (search needs))
 
 met-now-requires : tie.Need-met-now-requires Inv-loop μ-loop
-met-now-requires c κs = omega (arith, reads-next (c .before .before .before .before .loop .inv .0) (search needs))
+met-now-requires c κs =
+    let next = reads-next (c .before .before .before .before .loop .inv .0) (search needs) in
+    (omega (arith, next), search needs, omega (arith, next), search needs)
 
 element-write-met : tie.Need-element-write-met Inv-loop μ-loop
 element-write-met c = search needs

@@ -2,6 +2,7 @@
 use borrow.Author.Tests.{not-true, not-false}
 use mathlib.Core.Path.{sym, _∙_}
 use Rattle.checker.proofs.AnswerPaths.{record-refused, record-no-path, record-no-order, record-right, fault-head, room-for}
+use Rattle.checker.proofs.AnswerWalk.{walked-rises}
 use native.Mathlib.Omega.{arith}
 use borrow.Author.Needs.{needs}
 use Rattle.checker.proofs.answers.read_path.Statement.{statement}
@@ -41,7 +42,7 @@ returns-3 : tie.Need-returns-3
 returns-3 c = record-no-order _ _ _ _ _ (c .before .before .before .before .before .before .before .before .before .before .before .path-head-fault .ensures .1 (c .before .before .before .before .before .before .before .before .before .before .if1 .left)) (sym (c .before .before .before .before .before .before .before .before .before .before .before .path-head-fault .ensures .0) ∙ c .before .before .before .before .before .before .before .before .before .before .if1 .left) (c .before .before .before .before .before .before .before .before .before .be32 .ensures .0) (c .before .before .before .before .before .before .before .wide .ensures .0) (c .before .before .before .before .walk-path .ensures) (not-false _ (c .before .before .if2 .left)) (c .before .comes-before .ensures) (not-true _ (c .if3 .taken))
 
 mark-reads-requires : tie.Need-mark-reads-requires
-mark-reads-requires c κs = (c .before .before .before .before .before .before .before .before .before .before .before .before .before .before .before .pre .0 .0, omega (arith, (c .before .before .before .before .before .before .before .before .before .before .before .before .path-head-fault .ensures .1 (c .before .before .before .before .before .before .before .before .before .before .before .if1 .left)), (c .before .before .before .before .before .before .before .before .wide .ensures .0)), c .before .before .before .before .before .before .before .before .before .before .before .before .before .before .before .pre .1 .1)
+mark-reads-requires c κs = (c .before .before .before .before .before .before .before .before .before .before .before .before .before .before .before .pre .0 .0, omega (arith, (c .before .before .before .before .before .before .before .before .before .before .before .before .path-head-fault .ensures .1 (c .before .before .before .before .before .before .before .before .before .before .before .if1 .left)), (c .before .before .before .before .before .before .before .before .wide .ensures .0)), c .before .before .before .before .before .before .before .before .before .before .before .before .before .before .before .pre .1 .1, walked-rises (c .before .before .before .before .before .before .before .before .before .before .before .before .before .before .before .pre .0 .0) (c .before .before .before .before .before .walk-path .ensures) (not-false _ (c .before .before .before .if2 .left)))
 
 returns-4 : tie.Need-returns-4
 returns-4 c = record-right _ _ _ _ _ (c .before .before .before .before .before .before .before .before .before .before .before .before .before .path-head-fault .ensures .1 (c .before .before .before .before .before .before .before .before .before .before .before .before .if1 .left)) (sym (c .before .before .before .before .before .before .before .before .before .before .before .before .before .path-head-fault .ensures .0) ∙ c .before .before .before .before .before .before .before .before .before .before .before .before .if1 .left) (c .before .before .before .before .before .before .before .before .before .before .before .be32 .ensures .0) (c .before .before .before .before .before .before .before .before .before .wide .ensures .0) (c .before .before .before .before .before .before .walk-path .ensures) (not-false _ (c .before .before .before .before .if2 .left)) (c .before .before .before .comes-before .ensures) (not-false _ (c .before .before .if3 .left)) (c .mark-reads .ensures)
