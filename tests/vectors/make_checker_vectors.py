@@ -18,6 +18,7 @@ ROOT = os.path.join(os.path.dirname(os.path.abspath(__file__)), "..", "..")
 sys.path.insert(0, os.path.join(ROOT, "tests", "reference"))
 
 import make_reader_vectors
+import stored
 from cases import (D, D_ANSWER, D_MARKS, D_WITH_3, D_WITH_3_ANSWER, D_WITH_READ, L, L_ANSWER, NONE_ASKED, NONE_ASKED_ANSWER, NO_END, ONE,
                    ONE_ANSWER, X, X_ANSWER)
 from damage import damaged, every_single
@@ -350,10 +351,8 @@ for graph, members in groups.items():
         number, place, part = hand_out(graph, answer, k)
         checked = (0, 0) if number == 23 else (number, place)
         lines.append((name, " ".join(map(str, (*checked, number, place, *part)))))
-stdout = "".join(line + "\n" for _, line in lines).encode()
 
 if __name__ == "__main__":
-    folder = os.path.join(ROOT, "crates", "checker_vectors")
     counts = {}
     for _, line in lines:
         number = int(line.split()[2])
@@ -361,17 +360,4 @@ if __name__ == "__main__":
     summary = f"{len(lines)} vectors, {len(stdin)} bytes, seed {SEED}; by number: {dict(sorted(counts.items()))}"
     assert sorted(counts) == [*range(8), *range(11, 24)], summary
     assert len(stdin) < 1_500_000 and max(len(graph) for graph in groups) <= 4096 and max(len(v[2]) for v in vectors) <= 65_536, summary
-    if "--list" in sys.argv[1:]:
-        for number, (name, line) in enumerate(lines, 1):
-            print(f"{number}: {line}: {name}")
-    elif "--check" in sys.argv[1:]:
-        for name, wanted in (("stdin", stdin), ("stdout", stdout)):
-            with open(os.path.join(folder, name), "rb") as f:
-                if f.read() != wanted:
-                    sys.exit(f"crates/checker_vectors/{name} is not what tests/vectors/make_checker_vectors.py writes")
-        print("checker vectors:", summary)
-    else:
-        for name, data in (("stdin", stdin), ("stdout", stdout)):
-            with open(os.path.join(folder, name), "wb") as f:
-                f.write(data)
-        print("checker vectors:", summary)
+    stored.keep("checker_vectors", stdin, lines, summary)

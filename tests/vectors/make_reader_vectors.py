@@ -14,6 +14,7 @@ import sys
 ROOT = os.path.join(os.path.dirname(os.path.abspath(__file__)), "..", "..")
 sys.path.insert(0, os.path.join(ROOT, "tests", "reference"))
 
+import stored
 from cases import D, L, NONE_ASKED, ONE, X
 from forms import LONGEST_GRAPH, Graph, encode_graph, read_graph
 
@@ -233,24 +234,9 @@ for _ in range(300):
 
 stdin = b"".join(len(data).to_bytes(4, "big") + data for _, data in vectors)
 answers = [read_graph(data) for _, data in vectors]
-stdout = "".join(f"{number} {place}\n" for number, place in answers).encode()
 
 if __name__ == "__main__":
-    folder = os.path.join(ROOT, "crates", "reader_vectors")
     counts = {number: sum(1 for answer in answers if answer[0] == number) for number in range(8)}
-    summary = f"{len(vectors)} vectors, {len(stdin)} bytes, seed {SEED}; by number: {counts}"
     assert max(len(data) for _, data in vectors) <= 4096 and all(counts.values())
-    if "--list" in sys.argv[1:]:
-        for line, ((name, _), (number, place)) in enumerate(zip(vectors, answers), 1):
-            print(f"{line}: {number} {place}: {name}")
-    elif "--check" in sys.argv[1:]:
-        for name, wanted in (("stdin", stdin), ("stdout", stdout)):
-            with open(os.path.join(folder, name), "rb") as f:
-                if f.read() != wanted:
-                    sys.exit(f"crates/reader_vectors/{name} is not what tests/vectors/make_reader_vectors.py writes")
-        print("reader vectors:", summary)
-    else:
-        for name, data in (("stdin", stdin), ("stdout", stdout)):
-            with open(os.path.join(folder, name), "wb") as f:
-                f.write(data)
-        print("reader vectors:", summary)
+    lines = [(name, f"{number} {place}") for (name, _), (number, place) in zip(vectors, answers)]
+    stored.keep("reader_vectors", stdin, lines, f"{len(vectors)} vectors, {len(stdin)} bytes, seed {SEED}; by number: {counts}")

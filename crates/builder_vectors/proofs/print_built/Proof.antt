@@ -1,0 +1,70 @@
+-- `builder_vectors::print_built` is safe: the bytes that the builder says it wrote are within what was lent. Assumes nothing.
+use native.Mathlib.Omega.{arith}
+use mathlib.Core.Path.{sym}
+use lib.Seq.{length-take-le}
+use borrow.Author.Needs.{needs}
+use Rattle.builder_vectors.proofs.print_built.Statement.{statement}
+use Rattle.builder_vectors.proofs.print_built.Tie as tie
+
+slice-aggregate-build : tie.Need-slice-aggregate-build
+slice-aggregate-build c = search needs
+
+build-requires : tie.Need-build-requires
+build-requires c κs = search needs
+
+array-share-prefix-out : tie.Need-array-share-prefix-out
+array-share-prefix-out c = search needs
+
+slice-aggregate-check : tie.Need-slice-aggregate-check
+slice-aggregate-check c =
+    let p = c .before .before .build .ensures in
+    sym (length-take-le _ _ (omega (arith, p .fits, p .same-length)))
+
+check-requires : tie.Need-check-requires
+check-requires c κs = search needs
+
+print-first-requires : tie.Need-print-first-requires
+print-first-requires c κs = search needs
+
+print-next-requires : tie.Need-print-next-requires
+print-next-requires c κs = search needs
+
+slice-aggregate-stated-price : tie.Need-slice-aggregate-stated-price
+slice-aggregate-stated-price c = search needs
+
+stated-price-requires : tie.Need-stated-price-requires
+stated-price-requires c κs = search needs
+
+print-next-requires-2 : tie.Need-print-next-requires-2
+print-next-requires-2 c κs = search needs
+
+some-requires : tie.Need-some-requires
+some-requires c κs = search needs
+
+print-next-requires-3 : tie.Need-print-next-requires-3
+print-next-requires-3 c κs = search needs
+
+print-next-requires-4 : tie.Need-print-next-requires-4
+print-next-requires-4 c κs = search needs
+
+returns : tie.Need-returns
+returns c = search needs
+
+pub print-built-spec : {M : Type 1} → statement M
+print-built-spec =
+    tie.close
+    (tie.spec
+    slice-aggregate-build
+    build-requires
+    array-share-prefix-out
+    slice-aggregate-check
+    check-requires
+    print-first-requires
+    print-next-requires
+    slice-aggregate-stated-price
+    stated-price-requires
+    print-next-requires-2
+    some-requires
+    print-next-requires-3
+    print-next-requires-4
+    returns)
