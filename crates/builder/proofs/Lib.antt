@@ -1,10 +1,4 @@
 -- The laws that the builder's proofs cite, and its theorems.
-pub mod NetworkLaws
-pub mod NetworkLawsSearch
-pub mod NetworkLawsSettle
-pub mod NetworkLawsRaise
-pub mod NetworkLawsPush
-pub mod NetworkLawsCarry
 pub mod SetupLaws
 pub mod SetupLawsReach
 pub mod SetupLawsLacking

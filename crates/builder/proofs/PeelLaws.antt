@@ -15,9 +15,9 @@ use Rattle.mathematics.specs.Lists.{All}
 use Rattle.mathematics.specs.Range.{OneOf}
 use Rattle.mathematics.proofs.Basics.{all-append, all-weaken, all-right, among-left, among-right, is-true, is-false}
 use Rattle.mathematics.proofs.Loads.{sumOver, sumOver-append}
-use Rattle.builder.specs.Network.{at, sumTo, share, leaving, entering, Chained}
+use Rattle.network.specs.Network.{at, sumTo, share, leaving, entering, Chained}
 use Rattle.builder.specs.Peel.{worthTo, Circles, NextLoaded, Winds, Walked, TakenOff}
-use Rattle.builder.proofs.NetworkLaws.{same-or-not, below-or-not}
+use Rattle.network.proofs.NetworkLaws.{same-or-not, below-or-not}
 
 -- the search down the chain of u has come to h: no edge of u from h on is loaded
 pub record Looking (E : ℕ) (from load : List ℕ) (u h : ℕ) : Type 0 where

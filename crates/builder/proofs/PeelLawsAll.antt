@@ -22,10 +22,10 @@ use Rattle.checker.specs.GraphOf.{graphOf}
 use Rattle.checker.specs.GraphReads.{Reads}
 use Rattle.checker.specs.AnswerFaults.{listBefore}
 use Rattle.checker.proofs.GraphFacts.{length-tabulate, graph-well-formed}
-use Rattle.builder.specs.Network.{at, sumTo, share, leaving, entering}
+use Rattle.network.specs.Network.{at, sumTo, share, leaving, entering}
 use Rattle.builder.specs.Slots.{preparedOf, plainSlots, allSlots, openingSlot, closingSlot, readingSlot, linkAt}
 use Rattle.builder.specs.Peel.{collectedAt, collected, Ascend, PathTable, Inserted, fresh, added, GoesRound, worthTo, worthOf, Circles, NextLoaded, Winds, Peeled, loadedIn, opensAt, PeeledOne, Peeling}
-use Rattle.builder.proofs.NetworkLaws.{same-or-not, below-or-not}
+use Rattle.network.proofs.NetworkLaws.{same-or-not, below-or-not}
 use Rattle.builder.proofs.PeelLaws.{sum-same, sum-nothing, sum-part, share-here, share-there, only, taken-at, shares-nothing, shares-part}
 use Rattle.builder.proofs.PeelLawsLinks.{circles, whole, link-read}
 

@@ -22,10 +22,10 @@ use Rattle.checker.specs.GraphOf.{graphOf, vertexOf, arcOf}
 use Rattle.checker.specs.GraphReads.{Reads}
 use Rattle.checker.proofs.GraphFacts.{length-tabulate, graph-well-formed, graph-within}
 use Rattle.checker.proofs.TableLaws.{at-all}
-use Rattle.builder.specs.Network.{at}
+use Rattle.network.specs.Network.{at}
 use Rattle.builder.specs.Slots.{preparedOf, plainSlots, allSlots, openingSlot, closingSlot, readingSlot, linkAt, inUse, edgeFrom, edgeTo}
 use Rattle.builder.specs.Peel.{GoesRound, Circles, Winds}
-use Rattle.builder.proofs.NetworkLaws.{same-or-not, below-or-not}
+use Rattle.network.proofs.NetworkLaws.{same-or-not, below-or-not}
 
 pick-first : {A : Type 0} (a b : ℕ) (x y : A) → a < b → cond (ltb a b) x y ≡ x
 pick-first a b x y h = ap (λ (t : Bool). cond t x y) (is-true (ltb a b) (lt→ltb a b h))

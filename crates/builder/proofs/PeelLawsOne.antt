@@ -12,7 +12,7 @@ use Rattle.mathematics.proofs.Links.{opens, pathOf, IsWhole}
 use Rattle.checker.specs.GraphForm.{vertexCount}
 use Rattle.checker.specs.GraphOf.{graphOf}
 use Rattle.checker.proofs.GraphFacts.{graph-well-formed}
-use Rattle.builder.specs.Network.{at}
+use Rattle.network.specs.Network.{at}
 use Rattle.builder.specs.Slots.{allSlots, openingSlot, closingSlot, linkAt}
 use Rattle.builder.specs.Peel.{Collected, GoesRound, worthOf, Circles, Walked, TakenOff, Ready, opensAt, PeeledOne}
 use Rattle.builder.proofs.PeelLawsLinks.{circles, whole, path-short, slots-few}

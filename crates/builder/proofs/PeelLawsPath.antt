@@ -11,7 +11,7 @@ use Rattle.mathematics.proofs.Links.{Link, inside, linkVertices, pathOf}
 use Rattle.checker.specs.ReadTable.{rowAt, RowHolds}
 use Rattle.checker.proofs.TableLaws.{at-all}
 use Rattle.checker.proofs.TableRows.{table-get, table-row}
-use Rattle.builder.specs.Network.{at}
+use Rattle.network.specs.Network.{at}
 use Rattle.builder.specs.Slots.{preparedOf, allSlots, linkAt}
 use Rattle.builder.specs.Peel.{ReadsHeld, Written}
 use Rattle.builder.proofs.PeelLawsLinks.{Stands, vertex, join, start, stop, read, stands}

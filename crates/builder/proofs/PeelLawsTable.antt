@@ -11,11 +11,11 @@ use lib.ListN.{length, getD, set, take, drop, length-set, drop-of-length-le}
 use lib.Seq.{getD-set-same, getD-set-other, getD-take, drop-cons, length-take-le}
 use Rattle.mathematics.proofs.Basics.{is-true, is-false, or-l, or-r, and-in}
 use Rattle.checker.specs.AnswerFaults.{listBefore}
-use Rattle.builder.specs.Network.{at}
+use Rattle.network.specs.Network.{at}
 use Rattle.mathematics.specs.Cover.{Weighted}
 use Rattle.checker.specs.Bytes.{tabulate}
 use Rattle.builder.specs.Peel.{pathAt, collectedAt, collected, orderOf, RowFits, PathTable, Spotted, Shifted, Belongs, Inserted, fresh, added, Collected}
-use Rattle.builder.proofs.NetworkLaws.{same-or-not, below-or-not}
+use Rattle.network.proofs.NetworkLaws.{same-or-not, below-or-not}
 
 -- one number decides, or the rest
 order-less : (x y : ℕ) (p q : List ℕ) → x < y → orderOf (x ∷ p) (y ∷ q) ≡ 0

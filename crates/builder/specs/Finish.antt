@@ -17,7 +17,7 @@ use Rattle.checker.specs.GraphOf.{graphOf}
 use Rattle.checker.specs.GraphReads.{Reads}
 use Rattle.checker.specs.GraphFaults.{nothingRefused}
 use Rattle.checker.specs.Check.{checkVerdict}
-use Rattle.builder.specs.Network.{at, sumTo, base, reach}
+use Rattle.network.specs.Network.{at, sumTo, base, reach}
 use Rattle.builder.specs.Slots.{preparedOf, plainSlots, acrossSlot, readingSlot, linkAt, inUse, edgeCost, firstLoad}
 use Rattle.builder.specs.Peel.{GoesRound}
 

@@ -1,4 +1,3 @@
-pub mod Network
 pub mod Slots
 pub mod Peel
 pub mod Build

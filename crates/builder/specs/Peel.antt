@@ -20,7 +20,7 @@ use Rattle.checker.specs.GraphReads.{Reads}
 use Rattle.checker.specs.ReadTable.{Leaves}
 use Rattle.checker.specs.AnswerFaults.{listBefore}
 use Rattle.builder.specs.declared.collect.Spot.{Spot}
-use Rattle.builder.specs.Network.{at, sumTo, leaving, entering, Chained}
+use Rattle.network.specs.Network.{at, sumTo, leaving, entering, Chained}
 use Rattle.builder.specs.Slots.{preparedOf, plainSlots, allSlots, openingSlot, closingSlot, readingSlot, linkAt, inUse, edgeFrom, edgeTo}
 
 -- the path in row i of the table of collected paths, and with its weight

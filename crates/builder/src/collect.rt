@@ -3,7 +3,7 @@ ghost use mathlib.Core.Path.{_≡_};
 ghost use mathlib.Core.List.{[]};
 ghost use Prim.Native.Nat.{ℕ, _+_, _-_, _<_, _≤_};
 ghost use lib.ListN.{take, getD};
-ghost use Rattle.builder.specs.Network.{at};
+ghost use Rattle.network.specs.Network.{at};
 ghost use Rattle.builder.specs.Peel.{pathAt, collected, orderOf, RowFits, PathTable, Spotted, Shifted, Belongs, Collected};
 
 // A row of the table: the one that holds a path, or else the one where it belongs.

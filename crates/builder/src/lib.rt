@@ -7,8 +7,6 @@ pub struct Built {
     pub written: usize,
 }
 
-// A bare network and the flow of lowest cost in it: it knows nothing of graphs and reads.
-mod network;
 // Which vertices lie on paths, and the first item that asks and does not.
 mod reach;
 // Weighted paths from the loads.

@@ -2,7 +2,7 @@
 use Prim.Native.Nat.{_≤_, _-_}
 use mathlib.Core.Path.{_≡_, refl}
 use lib.ListN.{take, drop}
-use Rattle.builder.specs.Network.{at}
+use Rattle.network.specs.Network.{at}
 use Rattle.builder.specs.Peel.{pathAt, orderOf}
 use Rattle.builder.proofs.PeelLawsTable.{order-short, order-before, order-after, order-turn, order-begins, order-end}
 use borrow.Author.Needs.{needs}

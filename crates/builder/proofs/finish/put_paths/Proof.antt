@@ -2,7 +2,7 @@
 use Rattle.builder.proofs.FinishLaws.{PathsEnd, ends-none, ends-turn, paths-none, paths-turn, placed-length}
 use Rattle.builder.specs.Finish.{Placed}
 use Rattle.builder.specs.Peel.{collected}
-use Rattle.builder.specs.Network.{at}
+use Rattle.network.specs.Network.{at}
 use Rattle.checker.specs.Encode.{pathBytes}
 use lib.ListN.{length}
 use mathlib.Core.Path.{_≡_, refl, subst}

@@ -3,7 +3,7 @@ use Prim.Native.Nat.{_≤_, _<_, _-_}
 use native.Mathlib.Omega.{arith}
 use mathlib.Core.Path.{_≡_}
 use lib.ListN.{take}
-use Rattle.builder.specs.Network.{at}
+use Rattle.network.specs.Network.{at}
 use Rattle.builder.specs.Peel.{TakenOff}
 use Rattle.builder.proofs.PeelLaws.{taken-none, walk-carries, walk-fits, walk-turn}
 use borrow.Author.Needs.{needs}

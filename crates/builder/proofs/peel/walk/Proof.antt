@@ -4,7 +4,7 @@ use native.Mathlib.Omega.{arith}
 use mathlib.Core.Path.{_≡_, refl}
 use mathlib.Core.Logic.{inl, inr, ⊎-elim}
 use lib.ListN.{length, take, length-set}
-use Rattle.builder.specs.Network.{at}
+use Rattle.network.specs.Network.{at}
 use Rattle.builder.specs.Peel.{NextLoaded}
 use Rattle.builder.proofs.PeelLaws.{next-edge, Going, way-on, going-start, going-turn, going-home}
 use borrow.Author.Needs.{needs}
