@@ -19,9 +19,9 @@ use Rattle.checker.specs.ReadTable.{rowsOf, Leaves}
 use Rattle.checker.specs.Certify.{Counted, TableSized, CountsLow}
 use Rattle.checker.proofs.TableRows.{table-length}
 use Rattle.network.specs.Network.{at, sumTo, leaving, entering, base, Keys, Chained, Shape, Waiting, Carried}
-use Rattle.builder.specs.Slots.{preparedOf, plainSlots, allSlots, firstLoad}
+use Rattle.paths.specs.Slots.{preparedOf, plainSlots, allSlots, firstLoad}
 use Rattle.builder.specs.Lay.{EdgesLaid, LoadsLaid, LiveLaid, Summable, Tallied, Balanced}
-use Rattle.builder.specs.Peel.{opensAt, worthOf, ReadsHeld, Ready}
+use Rattle.paths.specs.Peel.{opensAt, worthOf, ReadsHeld, Ready}
 use Rattle.builder.specs.Finish.{Added, Loaded, Flowed}
 use Rattle.builder.specs.Stages.{ReadsReady, Layable, Blank, NetworkLaid, OneAdded, dropped, joined, Adding, AtBase}
 use Rattle.network.proofs.NetworkLaws.{same-or-not}

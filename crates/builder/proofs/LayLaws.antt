@@ -19,7 +19,7 @@ use Rattle.checker.specs.ReadTable.{rowAt, Leaves}
 use Rattle.checker.proofs.TableLaws.{row-get, last-get}
 use Rattle.checker.proofs.TableRows.{table-length, table-get, table-row}
 use Rattle.network.specs.Network.{at}
-use Rattle.builder.specs.Slots.{preparedOf, plainSlots, allSlots, acrossSlot, openingSlot, closingSlot, readingSlot, linkAt, inUse, edgeFrom, edgeTo, edgeCost}
+use Rattle.paths.specs.Slots.{preparedOf, plainSlots, allSlots, acrossSlot, openingSlot, closingSlot, readingSlot, linkAt, inUse, edgeFrom, edgeTo, edgeCost}
 use Rattle.builder.specs.Setup.{Counted, Tells}
 use Rattle.builder.specs.Lay.{Stored, EdgesLaid}
 use Rattle.builder.proofs.SetupLaws.{Filled, fill-more, start-is, end-is}

@@ -3,12 +3,6 @@ pub mod SetupLaws
 pub mod SetupLawsReach
 pub mod SetupLawsLacking
 pub mod Coverable
-pub mod PeelLaws
-pub mod PeelLawsTable
-pub mod PeelLawsLinks
-pub mod PeelLawsPath
-pub mod PeelLawsAll
-pub mod PeelLawsOne
 pub mod FinishLaws
 pub mod FinishLawsSlots
 pub mod LayLaws

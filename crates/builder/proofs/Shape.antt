@@ -28,7 +28,7 @@ use Rattle.checker.proofs.TableLaws.{at-all}
 use Rattle.checker.proofs.GraphFacts.{graph-well-formed, graph-within}
 use Rattle.checker.proofs.GraphRange.{vertices-length}
 use Rattle.network.specs.Network.{at, liveAt, sumTo, Way, stop, step, base, reach, Shape, Keys, Waiting, leaving, entering, share}
-use Rattle.builder.specs.Slots.{preparedOf, plainSlots, allSlots, insideSlot, acrossSlot, openingSlot, closingSlot, readingSlot, linkAt, liveNode, inUse, edgeFrom, edgeTo, edgeCost, firstLoad}
+use Rattle.paths.specs.Slots.{preparedOf, plainSlots, allSlots, insideSlot, acrossSlot, openingSlot, closingSlot, readingSlot, linkAt, liveNode, inUse, edgeFrom, edgeTo, edgeCost, firstLoad}
 use Rattle.builder.specs.Finish.{arcItem}
 use Rattle.builder.specs.Lay.{EdgesLaid, LoadsLaid, LiveLaid, Summable, Balanced}
 use Rattle.network.proofs.NetworkLaws.{same-or-not, below-or-not, positive, sum-same, sum-none, sum-ones, share-other}

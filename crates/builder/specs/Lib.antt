@@ -1,5 +1,3 @@
-pub mod Slots
-pub mod Peel
 pub mod Build
 pub mod Finish
 pub mod Setup

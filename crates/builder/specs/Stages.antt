@@ -14,7 +14,7 @@ use Rattle.checker.specs.GraphOf.{graphOf}
 use Rattle.checker.specs.GraphReads.{Reads}
 use Rattle.checker.specs.ReadTable.{Leaves}
 use Rattle.network.specs.Network.{at, base}
-use Rattle.builder.specs.Slots.{preparedOf, allSlots}
+use Rattle.paths.specs.Slots.{preparedOf, allSlots}
 use Rattle.builder.specs.Setup.{Tells}
 use Rattle.builder.specs.Lay.{VerticesCounted, ArcsCounted, EdgesLaid, LoadsLaid, LiveLaid, Balanced}
 

@@ -14,7 +14,7 @@ ghost use Rattle.checker.specs.GraphOf.{graphOf};
 ghost use Rattle.checker.specs.GraphReads.{Reads};
 ghost use Rattle.checker.specs.ReadTable.{Leaves};
 ghost use Rattle.network.specs.Network.{at};
-ghost use Rattle.builder.specs.Slots.{preparedOf, plainSlots, allSlots};
+ghost use Rattle.paths.specs.Slots.{preparedOf, plainSlots, allSlots};
 ghost use Rattle.builder.specs.Setup.{Tells};
 ghost use Rattle.builder.specs.Lay.{Stored, EdgesLaid, VerticesCounted, ArcsCounted, LoadsLaid, LiveLaid, Summable, Tallied, Netted, Balanced};
 
