@@ -50,11 +50,11 @@ use Rattle.checker.proofs.Ascending.{Ascending, ascending-distinct}
 use Rattle.checker.proofs.Encoding.{InRange}
 use Rattle.checker.proofs.Completeness.{MarksFit, shown-form-accepted}
 use Rattle.checker.proofs.CertifyLawsSlack.{low-difference, held-difference, held-sum-less-held, not-below}
-use Rattle.builder.specs.Network.{at, sumTo, base, reach}
-use Rattle.builder.specs.Slots.{preparedOf, plainSlots, allSlots, insideSlot, acrossSlot, openingSlot, closingSlot, linkAt, inUse, edgeCost, firstLoad}
-use Rattle.builder.specs.Peel.{Ascend, Peeled}
+use Rattle.network.specs.Network.{at, sumTo, base, reach}
+use Rattle.paths.specs.Slots.{preparedOf, plainSlots, allSlots, insideSlot, acrossSlot, openingSlot, closingSlot, linkAt, inUse, edgeCost, firstLoad}
+use Rattle.paths.specs.Peel.{Ascend, Peeled}
 use Rattle.builder.specs.Finish.{Settled, arcItem, copiesOf, arcWorth, priceFrom, heldMark, heldMarks, finalMarks}
-use Rattle.builder.proofs.NetworkLaws.{sum-same}
+use Rattle.network.proofs.NetworkLaws.{sum-same}
 use Rattle.builder.proofs.FinishLawsSlots
 
 -- ---- numbers held with something added

@@ -19,7 +19,7 @@ use Rattle.checker.specs.declared.Verdict.{Verdict}
 use Rattle.checker.specs.GraphFaults.{refusal, nothingRefused, then}
 use Rattle.builder.specs.Build.{roomAsked, asksLieVerdict, readsLieVerdict, coverVerdict}
 use Rattle.builder.specs.Setup.{lieVerdict}
-use Rattle.builder.proofs.NetworkLaws.{below-or-not}
+use Rattle.network.proofs.NetworkLaws.{below-or-not}
 use Rattle.builder.proofs.SetupLawsLacking.{vertex-asks-count}
 
 pub all-at : {A : Type 0} (P : A → Type 0) (xs : List A) (d : A) (p : ℕ) → All P xs → p < length xs → P (getD xs p d)

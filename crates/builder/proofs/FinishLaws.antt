@@ -19,9 +19,9 @@ use Rattle.checker.specs.Encode.{bytes16, bytes32, bytes64, word32, markBytes, 
 use Rattle.checker.proofs.GraphFacts.{length-tabulate}
 use Rattle.checker.proofs.Encoding.{pathRecord, marks-length}
 use Rattle.checker.proofs.CertifyLawsSlack.{low-difference}
-use Rattle.builder.specs.Network.{at, sumTo, base, reach}
-use Rattle.builder.specs.Peel.{collectedAt, collected}
-use Rattle.builder.specs.Slots.{acrossSlot}
+use Rattle.network.specs.Network.{at, sumTo, base, reach}
+use Rattle.paths.specs.Peel.{collectedAt, collected}
+use Rattle.paths.specs.Slots.{acrossSlot}
 use Rattle.builder.specs.Finish.{Placed, heldMark, heldMarks, copiesOf, arcWorth, priceFrom, Priced}
 use Rattle.builder.proofs.FinishLawsSlots.{sum-up}
 

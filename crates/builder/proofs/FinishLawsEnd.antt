@@ -30,10 +30,10 @@ use Rattle.checker.specs.Encode.{bytes32, word32, markBytes, pathBytes, afterLe
 use Rattle.checker.proofs.GraphReads.{number-zero-iff-reads}
 use Rattle.checker.proofs.GraphFacts.{graph-well-formed, graph-within}
 use Rattle.checker.proofs.Inside.{linked-inside}
-use Rattle.builder.specs.Network.{at, sumTo, base, reach}
-use Rattle.builder.specs.Slots.{preparedOf, plainSlots, acrossSlot}
+use Rattle.network.specs.Network.{at, sumTo, base, reach}
+use Rattle.paths.specs.Slots.{preparedOf, plainSlots, acrossSlot}
 use Rattle.builder.specs.Lay.{ArcsCounted}
-use Rattle.builder.specs.Peel.{collectedAt, collected, PathTable, Peeled}
+use Rattle.paths.specs.Peel.{collectedAt, collected, PathTable, Peeled}
 use Rattle.builder.specs.Finish.{Settled, Flowed, arcItem, copiesOf, arcWorth, priceFrom, heldMark, heldMarks, finalMarks, MarksHeld, Priced, Writable, PathsFit, Placed, Answered}
 use Rattle.builder.proofs.FinishLaws.{placed-length, placed-taken}
 use Rattle.builder.proofs.FinishLawsSlots

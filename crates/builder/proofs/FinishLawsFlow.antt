@@ -14,12 +14,12 @@ use Rattle.mathematics.proofs.Links.{opening, inNode, outNode, linkFrom, linkTo
 use Rattle.checker.specs.GraphForm.{vertexCount, arcCount, vertexDemand, arcAt, arcDemand}
 use Rattle.checker.specs.GraphOf.{graphOf}
 use Rattle.checker.specs.GraphReads.{Reads}
-use Rattle.builder.specs.Network.{at, liveAt, sumTo, share, leaving, entering, base, reach, Carried}
-use Rattle.builder.specs.Slots.{preparedOf, plainSlots, allSlots, acrossSlot, openingSlot, readingSlot, linkAt, inUse, edgeFrom, edgeTo, edgeCost, firstLoad, liveNode}
+use Rattle.network.specs.Network.{at, liveAt, sumTo, share, leaving, entering, base, reach, Carried}
+use Rattle.paths.specs.Slots.{preparedOf, plainSlots, allSlots, acrossSlot, openingSlot, readingSlot, linkAt, inUse, edgeFrom, edgeTo, edgeCost, firstLoad, liveNode}
 use Rattle.builder.specs.Lay.{EdgesLaid, LoadsLaid, LiveLaid}
-use Rattle.builder.specs.Peel.{GoesRound}
+use Rattle.paths.specs.Peel.{GoesRound}
 use Rattle.builder.specs.Finish.{Settled, copiesOf, Added, Flowed}
-use Rattle.builder.proofs.NetworkLaws.{same-or-not, below-or-not, sum-same, share-same, share-other}
+use Rattle.network.proofs.NetworkLaws.{same-or-not, below-or-not, sum-same, share-same, share-other}
 use Rattle.builder.proofs.LayLawsLoad.{live-in, live-out}
 use Rattle.builder.proofs.FinishLawsSlots
 

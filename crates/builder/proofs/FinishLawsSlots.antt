@@ -26,10 +26,10 @@ use Rattle.checker.specs.GraphOf.{vertexOf, arcOf, graphOf}
 use Rattle.checker.specs.GraphReads.{ArcsRight, Reads}
 use Rattle.checker.proofs.GraphFacts.{all-tabulate, ends-differ, graph-well-formed}
 use Rattle.checker.proofs.GraphRange.{vertices-length}
-use Rattle.builder.specs.Network.{at, sumTo}
-use Rattle.builder.specs.Slots.{preparedOf, plainSlots, allSlots, insideSlot, acrossSlot, openingSlot, closingSlot, readingSlot, linkAt, inUse, edgeFrom, edgeTo, edgeCost, firstLoad}
+use Rattle.network.specs.Network.{at, sumTo}
+use Rattle.paths.specs.Slots.{preparedOf, plainSlots, allSlots, insideSlot, acrossSlot, openingSlot, closingSlot, readingSlot, linkAt, inUse, edgeFrom, edgeTo, edgeCost, firstLoad}
 use Rattle.builder.specs.Finish.{arcItem, copiesOf}
-use Rattle.builder.proofs.NetworkLaws.{same-or-not, below-or-not, sum-same, sum-none}
+use Rattle.network.proofs.NetworkLaws.{same-or-not, below-or-not, sum-same, sum-none}
 
 -- ---- sums
 

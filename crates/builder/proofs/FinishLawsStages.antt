@@ -18,13 +18,13 @@ use Rattle.checker.specs.GraphReads.{Reads}
 use Rattle.reads.specs.ReadTable.{rowsOf, Leaves}
 use Rattle.checker.specs.Certify.{Counted, TableSized, CountsLow}
 use Rattle.reads.proofs.TableRows.{table-length}
-use Rattle.builder.specs.Network.{at, sumTo, leaving, entering, base, Keys, Chained, Shape, Waiting, Carried}
-use Rattle.builder.specs.Slots.{preparedOf, plainSlots, allSlots, firstLoad}
+use Rattle.network.specs.Network.{at, sumTo, leaving, entering, base, Keys, Chained, Shape, Waiting, Carried}
+use Rattle.paths.specs.Slots.{preparedOf, plainSlots, allSlots, firstLoad}
 use Rattle.builder.specs.Lay.{EdgesLaid, LoadsLaid, LiveLaid, Summable, Tallied, Balanced}
-use Rattle.builder.specs.Peel.{opensAt, worthOf, ReadsHeld, Ready}
+use Rattle.paths.specs.Peel.{opensAt, worthOf, ReadsHeld, Ready}
 use Rattle.builder.specs.Finish.{Added, Loaded, Flowed}
 use Rattle.builder.specs.Stages.{ReadsReady, Layable, Blank, NetworkLaid, OneAdded, dropped, joined, Adding, AtBase}
-use Rattle.builder.proofs.NetworkLaws.{same-or-not}
+use Rattle.network.proofs.NetworkLaws.{same-or-not}
 use Rattle.builder.proofs.Shape.{shape-of-graph, ends-live, first-loads-in-use, summable, balance-sums, ready-to-carry}
 use Rattle.builder.proofs.FinishLawsSlots.{opens-worth}
 use Rattle.builder.proofs.FinishLawsFlow.{flowed}

@@ -18,8 +18,8 @@ use Rattle.checker.specs.GraphReads.{Reads}
 use Rattle.reads.specs.ReadTable.{rowAt, Leaves}
 use Rattle.reads.proofs.TableLaws.{row-get, last-get}
 use Rattle.reads.proofs.TableRows.{table-length, table-get, table-row}
-use Rattle.builder.specs.Network.{at}
-use Rattle.builder.specs.Slots.{preparedOf, plainSlots, allSlots, acrossSlot, openingSlot, closingSlot, readingSlot, linkAt, inUse, edgeFrom, edgeTo, edgeCost}
+use Rattle.network.specs.Network.{at}
+use Rattle.paths.specs.Slots.{preparedOf, plainSlots, allSlots, acrossSlot, openingSlot, closingSlot, readingSlot, linkAt, inUse, edgeFrom, edgeTo, edgeCost}
 use Rattle.builder.specs.Setup.{Counted, Tells}
 use Rattle.builder.specs.Lay.{Stored, EdgesLaid}
 use Rattle.builder.proofs.SetupLaws.{Filled, fill-more, start-is, end-is}

@@ -7,9 +7,9 @@ use mathlib.Core.List.{List}
 use mathlib.Core.Logic.{_⊎_, inl, inr, ⊎-elim, _≢_}
 use lib.ListN.{length, set, length-set}
 use lib.Seq.{getD-set-same, getD-set-other}
-use Rattle.builder.specs.Network.{at, sumTo, share, leaving, entering}
+use Rattle.network.specs.Network.{at, sumTo, share, leaving, entering}
 use Rattle.builder.specs.Lay.{Summable, Tallied, Netted, Balanced}
-use Rattle.builder.proofs.NetworkLaws.{same-or-not, at-set, sum-same, sum-none, share-same, share-other, share-most}
+use Rattle.network.proofs.NetworkLaws.{same-or-not, at-set, sum-same, sum-none, share-same, share-other, share-most}
 use Rattle.builder.proofs.FinishLawsSlots.{sum-single, sum-add, sum-most}
 
 sum-more : (k : ℕ) (f : ℕ → ℕ) → sumTo (k + 1) f ≡ sumTo k f + f k

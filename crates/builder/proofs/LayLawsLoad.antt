@@ -12,8 +12,8 @@ use Rattle.mathematics.specs.Reach.{useful}
 use Rattle.checker.specs.Bytes.{be32}
 use Rattle.checker.specs.GraphForm.{vertexCount, arcCount, vertexDemand, arcAt, arcDemand}
 use Rattle.checker.specs.GraphOf.{graphOf}
-use Rattle.builder.specs.Network.{at}
-use Rattle.builder.specs.Slots.{preparedOf, plainSlots, acrossSlot, firstLoad, liveNode}
+use Rattle.network.specs.Network.{at}
+use Rattle.paths.specs.Slots.{preparedOf, plainSlots, acrossSlot, firstLoad, liveNode}
 use Rattle.builder.specs.Setup.{Counted, Tells}
 use Rattle.builder.specs.Lay.{VerticesCounted, ArcsCounted, LoadsLaid, LiveLaid}
 use Rattle.builder.proofs.SetupLaws.{Filled, fill-none, fill-more}

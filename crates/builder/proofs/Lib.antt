@@ -1,20 +1,8 @@
 -- The laws that the builder's proofs cite, and its theorems.
-pub mod NetworkLaws
-pub mod NetworkLawsSearch
-pub mod NetworkLawsSettle
-pub mod NetworkLawsRaise
-pub mod NetworkLawsPush
-pub mod NetworkLawsCarry
 pub mod SetupLaws
 pub mod SetupLawsReach
 pub mod SetupLawsLacking
 pub mod Coverable
-pub mod PeelLaws
-pub mod PeelLawsTable
-pub mod PeelLawsLinks
-pub mod PeelLawsPath
-pub mod PeelLawsAll
-pub mod PeelLawsOne
 pub mod FinishLaws
 pub mod FinishLawsSlots
 pub mod LayLaws

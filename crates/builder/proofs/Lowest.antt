@@ -28,7 +28,7 @@ use Rattle.checker.proofs.GraphRange.{vertices-length}
 use Rattle.checker.proofs.Soundness.{accepted-is-lowest}
 use Rattle.builder.specs.declared.Built.{Built}
 use Rattle.builder.specs.Build.{roomAsked, coverVerdict, buildVerdict, BuildPromise}
-use Rattle.builder.proofs.NetworkLaws.{same-or-not}
+use Rattle.network.proofs.NetworkLaws.{same-or-not}
 use Rattle.builder.proofs.Coverable.{FirstLacking, eight-iff-no-cover, eight-at-first-lacking, coverable-asks-room}
 
 -- ---- the verdict

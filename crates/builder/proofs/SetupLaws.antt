@@ -18,7 +18,7 @@ use Rattle.checker.specs.GraphReads.{ArcsRight, Reads}
 use Rattle.checker.proofs.ArcLaws.{tailOf, headOf}
 use Rattle.checker.proofs.GraphFacts.{length-tabulate}
 use Rattle.builder.specs.Setup.{Counted}
-use Rattle.builder.proofs.NetworkLaws.{same-or-not}
+use Rattle.network.proofs.NetworkLaws.{same-or-not}
 
 -- the first i places of an array of `size` hold what f says
 pub record Filled {A : Type 0} (size : ℕ) (d : A) (f : ℕ → A) (xs : List A) (i : ℕ) : Type 0 where

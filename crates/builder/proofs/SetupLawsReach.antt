@@ -22,7 +22,7 @@ use Rattle.checker.specs.GraphOf.{arcOf, arcsOf, graphOf}
 use Rattle.checker.specs.GraphReads.{Reads}
 use Rattle.checker.proofs.GraphFacts.{graph-well-formed}
 use Rattle.builder.specs.Setup.{Tells}
-use Rattle.builder.proofs.NetworkLaws.{same-or-not, below-or-not}
+use Rattle.network.proofs.NetworkLaws.{same-or-not, below-or-not}
 use Rattle.checker.proofs.ArcLaws.{tailOf, headOf}
 use Rattle.builder.proofs.SetupLaws.{vertices-count, arc-there, arc-number, arc-inside, tails-rise}
 

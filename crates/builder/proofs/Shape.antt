@@ -27,11 +27,11 @@ use Rattle.checker.specs.GraphReads.{Reads}
 use Rattle.reads.proofs.TableLaws.{at-all}
 use Rattle.checker.proofs.GraphFacts.{graph-well-formed, graph-within}
 use Rattle.checker.proofs.GraphRange.{vertices-length}
-use Rattle.builder.specs.Network.{at, liveAt, sumTo, Way, stop, step, base, reach, Shape, Keys, Waiting, leaving, entering, share}
-use Rattle.builder.specs.Slots.{preparedOf, plainSlots, allSlots, insideSlot, acrossSlot, openingSlot, closingSlot, readingSlot, linkAt, liveNode, inUse, edgeFrom, edgeTo, edgeCost, firstLoad}
+use Rattle.network.specs.Network.{at, liveAt, sumTo, Way, stop, step, base, reach, Shape, Keys, Waiting, leaving, entering, share}
+use Rattle.paths.specs.Slots.{preparedOf, plainSlots, allSlots, insideSlot, acrossSlot, openingSlot, closingSlot, readingSlot, linkAt, liveNode, inUse, edgeFrom, edgeTo, edgeCost, firstLoad}
 use Rattle.builder.specs.Finish.{arcItem}
 use Rattle.builder.specs.Lay.{EdgesLaid, LoadsLaid, LiveLaid, Summable, Balanced}
-use Rattle.builder.proofs.NetworkLaws.{same-or-not, below-or-not, positive, sum-same, sum-none, sum-ones, share-other}
+use Rattle.network.proofs.NetworkLaws.{same-or-not, below-or-not, positive, sum-same, sum-none, sum-ones, share-other}
 use Rattle.builder.proofs.SetupLaws.{arc-number}
 use Rattle.builder.proofs.FinishLawsSlots.{SlotKind, is-inside, is-across, is-opening, is-closing, slot-kind, at-reading, first-inside, first-across, first-end, arc-among, sum-split, sum-most}
 use Rattle.builder.proofs.LayLaws.{EdgeIs, inside-edge, across-edge, opening-edge, closing-edge, listed, few-plain}

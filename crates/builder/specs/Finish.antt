@@ -17,9 +17,9 @@ use Rattle.checker.specs.GraphOf.{graphOf}
 use Rattle.checker.specs.GraphReads.{Reads}
 use Rattle.checker.specs.GraphFaults.{nothingRefused}
 use Rattle.checker.specs.Check.{checkVerdict}
-use Rattle.builder.specs.Network.{at, sumTo, base, reach}
-use Rattle.builder.specs.Slots.{preparedOf, plainSlots, acrossSlot, readingSlot, linkAt, inUse, edgeCost, firstLoad}
-use Rattle.builder.specs.Peel.{GoesRound}
+use Rattle.network.specs.Network.{at, sumTo, base, reach}
+use Rattle.paths.specs.Slots.{preparedOf, plainSlots, acrossSlot, readingSlot, linkAt, inUse, edgeCost, firstLoad}
+use Rattle.paths.specs.Peel.{GoesRound}
 
 -- Marks of the nodes and loads added to the first ones, once all is carried: marks are near the root's, no slack of a link in use is below 0, a link with an
 -- added load is in use and has slack 0; `full` is what each link carries in all.

@@ -9,8 +9,8 @@ use lib.ListN.{length, set}
 use Rattle.mathematics.specs.Bound.{readsThrough}
 use Rattle.mathematics.specs.Cover.{vert}
 use Rattle.checker.specs.GraphForm.{vertexCount, arcCount}
-use Rattle.builder.specs.Network.{at, liveAt, leaving, entering}
-use Rattle.builder.specs.Slots.{preparedOf, liveNode, edgeFrom, edgeTo, edgeCost, firstLoad}
+use Rattle.network.specs.Network.{at, liveAt, leaving, entering}
+use Rattle.paths.specs.Slots.{preparedOf, liveNode, edgeFrom, edgeTo, edgeCost, firstLoad}
 use Rattle.builder.specs.Finish.{arcItem}
 
 -- an edge is stored at place e: with its ends and its cost where it is used, and else as a loop of cost 0 at the root

@@ -1,6 +1,3 @@
-pub mod Network
-pub mod Slots
-pub mod Peel
 pub mod Build
 pub mod Finish
 pub mod Setup

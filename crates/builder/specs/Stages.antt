@@ -13,8 +13,8 @@ use Rattle.checker.specs.GraphForm.{vertexCount}
 use Rattle.checker.specs.GraphOf.{graphOf}
 use Rattle.checker.specs.GraphReads.{Reads}
 use Rattle.reads.specs.ReadTable.{Leaves}
-use Rattle.builder.specs.Network.{at, base}
-use Rattle.builder.specs.Slots.{preparedOf, allSlots}
+use Rattle.network.specs.Network.{at, base}
+use Rattle.paths.specs.Slots.{preparedOf, allSlots}
 use Rattle.builder.specs.Setup.{Tells}
 use Rattle.builder.specs.Lay.{VerticesCounted, ArcsCounted, EdgesLaid, LoadsLaid, LiveLaid, Balanced}
 

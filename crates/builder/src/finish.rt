@@ -11,8 +11,8 @@ ghost use lib.ListN.{length, getD, take};
 ghost use mathlib.Core.List.{[]};
 ghost use Rattle.checker.specs.Encode.{bytes16, bytes32, bytes64, word32, markBytes, pathBytes, encodeAnswer};
 ghost use Rattle.checker.proofs.Encoding.{pathRecord};
-ghost use Rattle.builder.specs.Network.{at, sumTo, base, reach};
-ghost use Rattle.builder.specs.Peel.{collectedAt, collected};
+ghost use Rattle.network.specs.Network.{at, sumTo, base, reach};
+ghost use Rattle.paths.specs.Peel.{collectedAt, collected};
 ghost use Rattle.builder.specs.Setup.{Marked};
 ghost use Rattle.builder.specs.Finish.{Placed, heldMarks, Writable, PathsFit, MarksHeld, Priced, priceFrom};
 

@@ -1,4 +1,5 @@
-// The builder: from graph bytes to the answer form of a lowest-price cover. It sees only what the reader and checker publish, and the mathematics.
+// The builder: from graph bytes to the answer form of a lowest-price cover. It sees only what the reader and checker publish, the mathematics, and its
+// own parts below: the flow of lowest cost (crates/network) and the paths off a flow (crates/paths).
 
 // What a call to build answers: the refusal's number and place (both 0 where nothing is refused), and how many bytes it wrote at the front of the output.
 pub struct Built {
@@ -7,14 +8,8 @@ pub struct Built {
     pub written: usize,
 }
 
-// A bare network and the flow of lowest cost in it: it knows nothing of graphs and reads.
-mod network;
 // Which vertices lie on paths, and the first item that asks and does not.
 mod reach;
-// Weighted paths from the loads.
-mod peel;
-// The paths that are taken off, merged in order.
-mod collect;
 // What a build ends with: marks, price, and the answer form in the output.
 mod finish;
 // Lays the working network of a graph form: edges, first loads, live nodes, surpluses and deficits.

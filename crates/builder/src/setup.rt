@@ -13,8 +13,8 @@ ghost use Rattle.checker.specs.GraphForm.{vertexCount, arcCount};
 ghost use Rattle.checker.specs.GraphOf.{graphOf};
 ghost use Rattle.checker.specs.GraphReads.{Reads};
 ghost use Rattle.reads.specs.ReadTable.{Leaves};
-ghost use Rattle.builder.specs.Network.{at};
-ghost use Rattle.builder.specs.Slots.{preparedOf, plainSlots, allSlots};
+ghost use Rattle.network.specs.Network.{at};
+ghost use Rattle.paths.specs.Slots.{preparedOf, plainSlots, allSlots};
 ghost use Rattle.builder.specs.Setup.{Tells};
 ghost use Rattle.builder.specs.Lay.{Stored, EdgesLaid, VerticesCounted, ArcsCounted, LoadsLaid, LiveLaid, Summable, Tallied, Netted, Balanced};
 

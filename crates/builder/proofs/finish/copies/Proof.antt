@@ -1,7 +1,7 @@
 -- `builder::finish::copies` meets its contract. The loop's invariant: the sum is that of the first k openings, and no sum of fewer terms is more than the whole. Assumes nothing.
 use Rattle.builder.proofs.FinishLawsSlots.{sum-up}
 use Rattle.builder.proofs.FinishLaws.{sum-more}
-use Rattle.builder.specs.Network.{at, sumTo}
+use Rattle.network.specs.Network.{at, sumTo}
 use mathlib.Core.Path.{_≡_, refl, ap, _∙_}
 use Prim.Native.Nat.{suc, _≤_, _-_, _+_}
 use native.Mathlib.Omega.{arith}

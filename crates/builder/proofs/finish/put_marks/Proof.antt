@@ -1,7 +1,7 @@
 -- `builder::finish::put_marks` meets its contract. The loop's invariant: the marks of the vertices before v are put, and nothing else is changed. Assumes nothing.
 use Rattle.builder.proofs.FinishLaws.{placed-length, placed-none, marks-turn}
 use Rattle.builder.specs.Finish.{Placed, heldMarks}
-use Rattle.builder.specs.Network.{at}
+use Rattle.network.specs.Network.{at}
 use Rattle.checker.specs.Encode.{markBytes}
 use lib.ListN.{length}
 use mathlib.Core.Path.{_≡_, refl, subst}

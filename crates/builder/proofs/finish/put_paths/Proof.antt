@@ -1,8 +1,8 @@
 -- `builder::finish::put_paths` meets its contract. The loop's invariant: the records of the first i paths are put, `end` is the place behind them, and no record has more than 69 bytes. Assumes nothing.
 use Rattle.builder.proofs.FinishLaws.{PathsEnd, ends-none, ends-turn, paths-none, paths-turn, placed-length}
 use Rattle.builder.specs.Finish.{Placed}
-use Rattle.builder.specs.Peel.{collected}
-use Rattle.builder.specs.Network.{at}
+use Rattle.paths.specs.Peel.{collected}
+use Rattle.network.specs.Network.{at}
 use Rattle.checker.specs.Encode.{pathBytes}
 use lib.ListN.{length}
 use mathlib.Core.Path.{_≡_, refl, subst}

@@ -1,7 +1,7 @@
 -- `builder::finish::write_answer` meets its contract: all but the length is put from byte 4 on, piece behind piece, and the length in front of it. Assumes nothing.
 use Rattle.builder.proofs.FinishLaws.{collected-length, answer-placed}
 use Rattle.builder.specs.Finish.{heldMarks}
-use Rattle.builder.specs.Network.{at}
+use Rattle.network.specs.Network.{at}
 use lib.ListN.{length-set}
 use mathlib.Core.Path.{_∙_}
 use native.Mathlib.Omega.{arith}

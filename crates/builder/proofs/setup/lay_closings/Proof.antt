@@ -1,5 +1,5 @@
 use Rattle.builder.proofs.LayLaws.{counted, edges-at, lay-closing, vertex-whole}
-use Rattle.builder.specs.Slots.{plainSlots}
+use Rattle.paths.specs.Slots.{plainSlots}
 use Prim.Native.Nat.{ℕ, _+_, _*_, _-_, _≤_, _<_}
 use native.Mathlib.Omega.{arith}
 use mathlib.Core.Path.{_≡_, refl, sym, ap, ap₂, subst, _∙_}

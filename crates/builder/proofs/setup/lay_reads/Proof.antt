@@ -1,7 +1,7 @@
 use Rattle.builder.proofs.LayLaws.{counted, edges-at, lay-read, read-some}
 use lib.ListN.{length}
 use Rattle.reads.proofs.TableRows.{table-length}
-use Rattle.builder.specs.Slots.{allSlots, preparedOf}
+use Rattle.paths.specs.Slots.{allSlots, preparedOf}
 use Prim.Native.Nat.{ℕ, _+_, _*_, _-_, _≤_, _<_}
 use native.Mathlib.Omega.{arith}
 use mathlib.Core.Path.{_≡_, refl, sym, ap, ap₂, subst, _∙_}

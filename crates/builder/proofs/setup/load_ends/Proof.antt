@@ -1,6 +1,6 @@
 use Rattle.builder.proofs.LayLawsLoad.{loads-at, load-end}
 use Rattle.builder.proofs.LayLaws.{counted}
-use Rattle.builder.specs.Slots.{allSlots}
+use Rattle.paths.specs.Slots.{allSlots}
 use Prim.Native.Nat.{ℕ, _+_, _*_, _-_, _≤_, _<_}
 use native.Mathlib.Omega.{arith}
 use mathlib.Core.Path.{_≡_, refl, sym, ap, ap₂, subst, _∙_}
