@@ -8,7 +8,7 @@ use mathlib.Core.Logic.{_⊎_}
 use lib.ListN.{length, set}
 use Rattle.mathematics.specs.Bound.{readsThrough}
 use Rattle.mathematics.specs.Cover.{vert}
-use Rattle.checker.specs.GraphForm.{vertexCount, arcCount}
+use Rattle.forms.specs.GraphForm.{vertexCount, arcCount}
 use Rattle.builder.specs.Network.{at, liveAt, leaving, entering}
 use Rattle.builder.specs.Slots.{preparedOf, liveNode, edgeFrom, edgeTo, edgeCost, firstLoad}
 use Rattle.builder.specs.Finish.{arcItem}
