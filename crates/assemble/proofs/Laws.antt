@@ -5,10 +5,11 @@ use mathlib.Core.Path.{_≡_, ap, sym, _∙_}
 use mathlib.Core.List.{List, []}
 use lib.ListN.{length, take}
 use borrow.Author.Tests.{lt-ltb, le-ltb, eq-eqb, ne-eqb}
-use Rattle.checker.specs.declared.Verdict.{Verdict}
-use Rattle.checker.specs.GraphFaults.{refusal}
+use Rattle.forms.specs.declared.Verdict.{Verdict}
+use Rattle.forms.specs.GraphFaults.{refusal}
 use Rattle.builder.specs.declared.Built.{Built}
-use Rattle.builder.specs.Build.{roomAsked, buildVerdict, BuildPromise}
+use Rattle.forms.specs.BuildFaults.{roomAsked, buildVerdict}
+use Rattle.builder.specs.Build.{BuildPromise}
 use Rattle.listing.specs.Text.{refusedLine}
 use Rattle.listing.specs.Listing.{listingOf, longestInput, fitted, Writes}
 use Rattle.assemble.specs.Assemble.{assembledListing, Assembled}

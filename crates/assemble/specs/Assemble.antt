@@ -5,9 +5,9 @@ use mathlib.Core.List.{List}
 use mathlib.Core.Bool.{cond}
 use lib.Dec.{ltb, eqb}
 use lib.ListN.{length}
-use Rattle.checker.specs.GraphFaults.{nothingRefused}
+use Rattle.forms.specs.GraphFaults.{nothingRefused}
 use Rattle.checker.specs.Check.{checkVerdict}
-use Rattle.builder.specs.Build.{roomAsked, buildVerdict}
+use Rattle.forms.specs.BuildFaults.{roomAsked, buildVerdict}
 use Rattle.listing.specs.Text.{refusedLine}
 use Rattle.listing.specs.Listing.{listingOf, longestInput, fitted, Writes}
 

@@ -34,22 +34,22 @@ use Rattle.mathematics.proofs.Network.{slack}
 use Rattle.mathematics.proofs.Links.{Link, opening, closing, inside, across, inNode, outNode, linkFrom, linkTo, AtEnds}
 use Rattle.mathematics.proofs.Wired.{Node, node-cases, linkCost, edgeOf}
 use Rattle.mathematics.proofs.Marked.{sideMark, marksOf, side-among, Spread, open-slack, close-slack, inside-slack, across-slack, slacks-hold}
-use Rattle.checker.specs.Limits.{maxPaths, maxWeight}
-use Rattle.checker.specs.Bytes.{tabulate}
-use Rattle.checker.specs.GraphForm.{vertexCount, arcCount, openingPrice, arcAt, arcTail, arcHead, arcCost, vertexDemand, arcDemand}
-use Rattle.checker.specs.GraphOf.{vertexOf, arcOf, graphOf}
-use Rattle.checker.specs.GraphReads.{Reads}
-use Rattle.checker.specs.GraphFaults.{nothingRefused, graphVerdict}
-use Rattle.checker.specs.AnswerFaults.{listBefore}
+use Rattle.forms.specs.Limits.{maxPaths, maxWeight}
+use Rattle.forms.specs.Bytes.{tabulate}
+use Rattle.forms.specs.GraphForm.{vertexCount, arcCount, openingPrice, arcAt, arcTail, arcHead, arcCost, vertexDemand, arcDemand}
+use Rattle.forms.specs.GraphOf.{vertexOf, arcOf, graphOf}
+use Rattle.forms.specs.GraphReads.{Reads}
+use Rattle.forms.specs.GraphFaults.{nothingRefused, graphVerdict}
+use Rattle.forms.specs.AnswerFaults.{listBefore}
 use Rattle.checker.specs.Check.{checkVerdict}
 use Rattle.checker.specs.Encode.{encodeAnswer}
-use Rattle.checker.proofs.GraphFacts.{graph-well-formed, graph-costs-hold, graph-within}
+use Rattle.forms.proofs.GraphFacts.{graph-well-formed, graph-costs-hold, graph-within}
 use Rattle.checker.proofs.GraphReads.{number-zero-iff-reads}
-use Rattle.checker.proofs.GraphRange.{vertices-length}
+use Rattle.forms.proofs.GraphRange.{vertices-length}
 use Rattle.checker.proofs.Ascending.{Ascending, ascending-distinct}
 use Rattle.checker.proofs.Encoding.{InRange}
 use Rattle.checker.proofs.Completeness.{MarksFit, shown-form-accepted}
-use Rattle.checker.proofs.CertifyLawsSlack.{low-difference, held-difference, held-sum-less-held, not-below}
+use Rattle.certify.proofs.CertifyLawsSlack.{low-difference, held-difference, held-sum-less-held, not-below}
 use Rattle.network.specs.Network.{at, sumTo, base, reach}
 use Rattle.paths.specs.Slots.{preparedOf, plainSlots, allSlots, insideSlot, acrossSlot, openingSlot, closingSlot, linkAt, inUse, edgeCost, firstLoad}
 use Rattle.paths.specs.Peel.{Ascend, Peeled}

@@ -15,9 +15,9 @@ use Rattle.mathematics.specs.Exists.{ItemOnPath, ReadOnPath, Coverable}
 use Rattle.mathematics.specs.Reach.{every, itemList, askLies, readLies, coverable-test}
 use Rattle.mathematics.proofs.Basics.{and-l, and-r, and-in}
 use Rattle.mathematics.proofs.Existence.{cover-exists, cover-shows-coverable, coverable-decided, asks-linked, ask-lies, read-lies}
-use Rattle.checker.specs.declared.Verdict.{Verdict}
-use Rattle.checker.specs.GraphFaults.{refusal, nothingRefused, then}
-use Rattle.builder.specs.Build.{roomAsked, asksLieVerdict, readsLieVerdict, coverVerdict}
+use Rattle.forms.specs.declared.Verdict.{Verdict}
+use Rattle.forms.specs.GraphFaults.{refusal, nothingRefused, then}
+use Rattle.forms.specs.BuildFaults.{roomAsked, asksLieVerdict, readsLieVerdict, coverVerdict}
 use Rattle.builder.specs.Setup.{lieVerdict}
 use Rattle.network.proofs.NetworkLaws.{below-or-not}
 use Rattle.builder.proofs.SetupLawsLacking.{vertex-asks-count}

@@ -8,11 +8,11 @@ use lib.ListN.{length, take}
 use Rattle.mathematics.specs.Price.{whole}
 use Rattle.mathematics.proofs.PriceKinds.{whole-ordered}
 use Rattle.mathematics.proofs.Lowest.{lowest-prices-equal}
-use Rattle.checker.specs.declared.Verdict.{Verdict}
-use Rattle.checker.specs.GraphForm.{vertexCount}
-use Rattle.checker.specs.GraphOf.{graphOf}
-use Rattle.checker.specs.GraphFaults.{nothingRefused}
-use Rattle.checker.specs.AnswerForm.{statedPrice, coverOf}
+use Rattle.forms.specs.declared.Verdict.{Verdict}
+use Rattle.forms.specs.GraphForm.{vertexCount}
+use Rattle.forms.specs.GraphOf.{graphOf}
+use Rattle.forms.specs.GraphFaults.{nothingRefused}
+use Rattle.forms.specs.AnswerForm.{statedPrice, coverOf}
 use Rattle.checker.specs.Check.{checkVerdict}
 use Rattle.builder.specs.declared.Built.{Built}
 use Rattle.builder.specs.Build.{BuildPromise}
@@ -47,7 +47,7 @@ built-twice s before after after′ r r′ P Q =
           (a .lowest) (b .lowest) ∙ b .price-stated));
     }
   where
-    same : Rattle.checker.specs.GraphFaults.refusal (r .number) (r .place) ≡ Rattle.checker.specs.GraphFaults.refusal (r′ .number) (r′ .place)
+    same : Rattle.forms.specs.GraphFaults.refusal (r .number) (r .place) ≡ Rattle.forms.specs.GraphFaults.refusal (r′ .number) (r′ .place)
     same = P .verdict ∙ sym (Q .verdict)
 
     number : r .number ≡ r′ .number

@@ -12,13 +12,13 @@ use lib.Seq.{take-at, drop-at, drop-drop, take-suc, sets-eq, length-take-le}
 use Rattle.mathematics.specs.Cover.{Weighted}
 use Rattle.mathematics.specs.Bound.{Marks}
 use Rattle.mathematics.specs.Reach.{fromStart, toEnd}
-use Rattle.checker.specs.Bytes.{be32, tabulate}
-use Rattle.checker.specs.GraphForm.{vertexCount, arcCount, openingPrice, arcAt, arcCost}
-use Rattle.checker.specs.GraphOf.{graphOf}
+use Rattle.forms.specs.Bytes.{be32, tabulate}
+use Rattle.forms.specs.GraphForm.{vertexCount, arcCount, openingPrice, arcAt, arcCost}
+use Rattle.forms.specs.GraphOf.{graphOf}
 use Rattle.checker.specs.Encode.{bytes16, bytes32, bytes64, word32, markBytes, pathBytes, afterLength, encodeAnswer}
-use Rattle.checker.proofs.GraphFacts.{length-tabulate}
+use Rattle.forms.proofs.GraphFacts.{length-tabulate}
 use Rattle.checker.proofs.Encoding.{pathRecord, marks-length}
-use Rattle.checker.proofs.CertifyLawsSlack.{low-difference}
+use Rattle.certify.proofs.CertifyLawsSlack.{low-difference}
 use Rattle.network.specs.Network.{at, sumTo, base, reach}
 use Rattle.paths.specs.Peel.{collectedAt, collected}
 use Rattle.paths.specs.Slots.{acrossSlot}

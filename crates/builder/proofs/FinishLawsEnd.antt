@@ -20,15 +20,15 @@ use Rattle.mathematics.proofs.Prepared.{prepared-linked, prepared-fewer}
 use Rattle.mathematics.proofs.Reach.{arc-rises, linked-first}
 use Rattle.mathematics.proofs.Links.{inNode, outNode}
 use Rattle.mathematics.proofs.Marked.{side-among}
-use Rattle.checker.specs.Bytes.{tabulate}
-use Rattle.checker.specs.GraphForm.{vertexCount, arcCount, openingPrice, arcAt, arcCost}
-use Rattle.checker.specs.GraphOf.{graphOf}
-use Rattle.checker.specs.GraphReads.{Reads}
-use Rattle.checker.specs.GraphFaults.{nothingRefused, graphVerdict}
+use Rattle.forms.specs.Bytes.{tabulate}
+use Rattle.forms.specs.GraphForm.{vertexCount, arcCount, openingPrice, arcAt, arcCost}
+use Rattle.forms.specs.GraphOf.{graphOf}
+use Rattle.forms.specs.GraphReads.{Reads}
+use Rattle.forms.specs.GraphFaults.{nothingRefused, graphVerdict}
 use Rattle.checker.specs.Check.{checkVerdict}
 use Rattle.checker.specs.Encode.{bytes32, word32, markBytes, pathBytes, afterLength, encodeAnswer}
 use Rattle.checker.proofs.GraphReads.{number-zero-iff-reads}
-use Rattle.checker.proofs.GraphFacts.{graph-well-formed, graph-within}
+use Rattle.forms.proofs.GraphFacts.{graph-well-formed, graph-within}
 use Rattle.checker.proofs.Inside.{linked-inside}
 use Rattle.network.specs.Network.{at, sumTo, base, reach}
 use Rattle.paths.specs.Slots.{preparedOf, plainSlots, acrossSlot}

@@ -11,9 +11,9 @@ use lib.ListN.{length}
 use Rattle.mathematics.specs.Reach.{useful}
 use Rattle.mathematics.proofs.Basics.{is-true, is-false, test}
 use Rattle.mathematics.proofs.Links.{opening, inNode, outNode, linkFrom, linkTo}
-use Rattle.checker.specs.GraphForm.{vertexCount, arcCount, vertexDemand, arcAt, arcDemand}
-use Rattle.checker.specs.GraphOf.{graphOf}
-use Rattle.checker.specs.GraphReads.{Reads}
+use Rattle.forms.specs.GraphForm.{vertexCount, arcCount, vertexDemand, arcAt, arcDemand}
+use Rattle.forms.specs.GraphOf.{graphOf}
+use Rattle.forms.specs.GraphReads.{Reads}
 use Rattle.network.specs.Network.{at, liveAt, sumTo, share, leaving, entering, base, reach, Carried}
 use Rattle.paths.specs.Slots.{preparedOf, plainSlots, allSlots, acrossSlot, openingSlot, readingSlot, linkAt, inUse, edgeFrom, edgeTo, edgeCost, firstLoad, liveNode}
 use Rattle.builder.specs.Lay.{EdgesLaid, LoadsLaid, LiveLaid}

@@ -9,14 +9,15 @@ use borrow.Author.Tests.{eq-eqb, ne-eqb, lt-ltb, le-ltb}
 use lib.Dec.{ltb}
 use lib.ListN.{length}
 use Rattle.mathematics.specs.Exists.{Coverable}
-use Rattle.checker.specs.declared.Verdict.{Verdict}
-use Rattle.checker.specs.GraphOf.{graphOf}
-use Rattle.checker.specs.GraphReads.{Reads}
-use Rattle.checker.specs.GraphFaults.{refusal, nothingRefused, then, graphVerdict}
+use Rattle.forms.specs.declared.Verdict.{Verdict}
+use Rattle.forms.specs.GraphOf.{graphOf}
+use Rattle.forms.specs.GraphReads.{Reads}
+use Rattle.forms.specs.GraphFaults.{refusal, nothingRefused, then, graphVerdict}
 use Rattle.checker.proofs.GraphReads.{number-zero-iff-reads}
-use Rattle.checker.proofs.GraphFacts.{graph-well-formed}
+use Rattle.forms.proofs.GraphFacts.{graph-well-formed}
 use Rattle.builder.specs.declared.Built.{Built}
-use Rattle.builder.specs.Build.{roomAsked, coverVerdict, buildVerdict, BuildPromise}
+use Rattle.forms.specs.BuildFaults.{roomAsked, coverVerdict, buildVerdict}
+use Rattle.builder.specs.Build.{BuildPromise}
 use Rattle.builder.specs.Setup.{lieVerdict}
 use Rattle.builder.specs.Finish.{Answered}
 use Rattle.builder.proofs.Coverable.{lacking-then-room, none-lacking-iff-coverable}

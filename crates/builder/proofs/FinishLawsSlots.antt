@@ -20,12 +20,12 @@ use Rattle.mathematics.proofs.Reach.{from-start-below}
 use Rattle.mathematics.proofs.Basics.{and-l, and-in, is-true, is-false, all-append, all-map}
 use Rattle.mathematics.proofs.Base.{same-item}
 use Rattle.mathematics.proofs.Links.{Link, opening, closing, inside, across, reading, passes, opens}
-use Rattle.checker.specs.Bytes.{tabulate}
-use Rattle.checker.specs.GraphForm.{vertexCount, arcCount, openingPrice, vertexDemand, arcAt, arcTail, arcHead, arcCost, arcDemand}
-use Rattle.checker.specs.GraphOf.{vertexOf, arcOf, graphOf}
-use Rattle.checker.specs.GraphReads.{ArcsRight, Reads}
-use Rattle.checker.proofs.GraphFacts.{all-tabulate, ends-differ, graph-well-formed}
-use Rattle.checker.proofs.GraphRange.{vertices-length}
+use Rattle.forms.specs.Bytes.{tabulate}
+use Rattle.forms.specs.GraphForm.{vertexCount, arcCount, openingPrice, vertexDemand, arcAt, arcTail, arcHead, arcCost, arcDemand}
+use Rattle.forms.specs.GraphOf.{vertexOf, arcOf, graphOf}
+use Rattle.forms.specs.GraphReads.{ArcsRight, Reads}
+use Rattle.forms.proofs.GraphFacts.{all-tabulate, ends-differ, graph-well-formed}
+use Rattle.forms.proofs.GraphRange.{vertices-length}
 use Rattle.network.specs.Network.{at, sumTo}
 use Rattle.paths.specs.Slots.{preparedOf, plainSlots, allSlots, insideSlot, acrossSlot, openingSlot, closingSlot, readingSlot, linkAt, inUse, edgeFrom, edgeTo, edgeCost, firstLoad}
 use Rattle.builder.specs.Finish.{arcItem, copiesOf}

@@ -12,11 +12,11 @@ use lib.Seq.{getD-set-same, getD-set-other}
 use Rattle.mathematics.specs.Lists.{All}
 use Rattle.mathematics.specs.Exists.{Coverable}
 use Rattle.mathematics.specs.Prepare.{prepare}
-use Rattle.checker.specs.GraphForm.{vertexCount, arcCount}
-use Rattle.checker.specs.GraphOf.{graphOf}
-use Rattle.checker.specs.GraphReads.{Reads}
+use Rattle.forms.specs.GraphForm.{vertexCount, arcCount}
+use Rattle.forms.specs.GraphOf.{graphOf}
+use Rattle.forms.specs.GraphReads.{Reads}
 use Rattle.reads.specs.ReadTable.{rowsOf, Leaves}
-use Rattle.checker.specs.Certify.{Counted, TableSized, CountsLow}
+use Rattle.certify.specs.Certify.{Counted, TableSized, CountsLow}
 use Rattle.reads.proofs.TableRows.{table-length}
 use Rattle.network.specs.Network.{at, sumTo, leaving, entering, base, Keys, Chained, Shape, Waiting, Carried}
 use Rattle.paths.specs.Slots.{preparedOf, plainSlots, allSlots, firstLoad}

@@ -11,10 +11,10 @@ use Rattle.mathematics.specs.Lists.{lastOf}
 use Rattle.mathematics.specs.Graph.{isStart, isEnd}
 use Rattle.mathematics.specs.Reach.{useful}
 use Rattle.mathematics.proofs.Links.{Link, opening, closing, inside, across, reading, linkFrom, linkTo}
-use Rattle.checker.specs.Bytes.{byte, be32}
-use Rattle.checker.specs.GraphForm.{vertexCount, arcCount, openingPrice, flags, arcAt, arcTail, arcHead, arcCost}
-use Rattle.checker.specs.GraphOf.{graphOf}
-use Rattle.checker.specs.GraphReads.{Reads}
+use Rattle.forms.specs.Bytes.{byte, be32}
+use Rattle.forms.specs.GraphForm.{vertexCount, arcCount, openingPrice, flags, arcAt, arcTail, arcHead, arcCost}
+use Rattle.forms.specs.GraphOf.{graphOf}
+use Rattle.forms.specs.GraphReads.{Reads}
 use Rattle.reads.specs.ReadTable.{rowAt, Leaves}
 use Rattle.reads.proofs.TableLaws.{row-get, last-get}
 use Rattle.reads.proofs.TableRows.{table-length, table-get, table-row}

@@ -9,9 +9,9 @@ use borrow.Author.Tests.{lt-ltb, le-ltb}
 use lib.Dec.{ltb}
 use lib.ListN.{length, getD, set}
 use Rattle.mathematics.specs.Reach.{useful}
-use Rattle.checker.specs.Bytes.{be32}
-use Rattle.checker.specs.GraphForm.{vertexCount, arcCount, vertexDemand, arcAt, arcDemand}
-use Rattle.checker.specs.GraphOf.{graphOf}
+use Rattle.forms.specs.Bytes.{be32}
+use Rattle.forms.specs.GraphForm.{vertexCount, arcCount, vertexDemand, arcAt, arcDemand}
+use Rattle.forms.specs.GraphOf.{graphOf}
 use Rattle.network.specs.Network.{at}
 use Rattle.paths.specs.Slots.{preparedOf, plainSlots, acrossSlot, firstLoad, liveNode}
 use Rattle.builder.specs.Setup.{Counted, Tells}

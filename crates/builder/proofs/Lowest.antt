@@ -12,22 +12,23 @@ use lib.ListN.{length, take}
 use Rattle.mathematics.specs.Price.{whole}
 use Rattle.mathematics.specs.Cover.{Weighted, totalWeight, IsCover, price, IsLowest}
 use Rattle.mathematics.proofs.Existence.{cover-shows-coverable}
-use Rattle.checker.specs.declared.Verdict.{Verdict}
-use Rattle.checker.specs.Limits.{maxPaths, maxWeight}
-use Rattle.checker.specs.GraphForm.{vertexCount}
-use Rattle.checker.specs.GraphOf.{graphOf}
-use Rattle.checker.specs.GraphReads.{Reads}
-use Rattle.checker.specs.GraphFaults.{refusal, nothingRefused, graphVerdict}
-use Rattle.checker.specs.AnswerForm.{statedPrice, pathCount, inMarkAt, outMarkAt, marksOf, firstPathAt, pathWeight, pathVertices, pathEnd, pathsFrom, coverOf}
+use Rattle.forms.specs.declared.Verdict.{Verdict}
+use Rattle.forms.specs.Limits.{maxPaths, maxWeight}
+use Rattle.forms.specs.GraphForm.{vertexCount}
+use Rattle.forms.specs.GraphOf.{graphOf}
+use Rattle.forms.specs.GraphReads.{Reads}
+use Rattle.forms.specs.GraphFaults.{refusal, nothingRefused, graphVerdict}
+use Rattle.forms.specs.AnswerForm.{statedPrice, pathCount, inMarkAt, outMarkAt, marksOf, firstPathAt, pathWeight, pathVertices, pathEnd, pathsFrom, coverOf}
 use Rattle.checker.specs.Check.{checkVerdict}
 use Rattle.checker.proofs.Accepted.{MarkRight, MarksRight, PathsRight, number-zero-accepted}
 use Rattle.checker.proofs.Completeness.{MarksFit}
-use Rattle.checker.proofs.GraphFacts.{graph-well-formed}
+use Rattle.forms.proofs.GraphFacts.{graph-well-formed}
 use Rattle.checker.proofs.GraphReads.{number-zero-iff-reads, number-to-seven}
-use Rattle.checker.proofs.GraphRange.{vertices-length}
+use Rattle.forms.proofs.GraphRange.{vertices-length}
 use Rattle.checker.proofs.Soundness.{accepted-is-lowest}
 use Rattle.builder.specs.declared.Built.{Built}
-use Rattle.builder.specs.Build.{roomAsked, coverVerdict, buildVerdict, BuildPromise}
+use Rattle.forms.specs.BuildFaults.{roomAsked, coverVerdict, buildVerdict}
+use Rattle.builder.specs.Build.{BuildPromise}
 use Rattle.network.proofs.NetworkLaws.{same-or-not}
 use Rattle.builder.proofs.Coverable.{FirstLacking, eight-iff-no-cover, eight-at-first-lacking, coverable-asks-room}
 

@@ -11,12 +11,12 @@ use lib.ListN.{length, getD, set, length-set}
 use lib.Seq.{getD-set-same, getD-set-other}
 use Rattle.mathematics.specs.Graph.{Vertex, noVertex, isStart, isEnd, joins, hasArc}
 use Rattle.mathematics.proofs.Basics.{and-l, and-r, and-in, or-cases, or-l, or-r}
-use Rattle.checker.specs.Bytes.{byte, tabulate}
-use Rattle.checker.specs.GraphForm.{vertexCount, arcCount, flags, arcAt, arcTail, arcHead}
-use Rattle.checker.specs.GraphOf.{vertexOf, arcOf, arcsOf, graphOf}
-use Rattle.checker.specs.GraphReads.{ArcsRight, Reads}
-use Rattle.checker.proofs.ArcLaws.{tailOf, headOf}
-use Rattle.checker.proofs.GraphFacts.{length-tabulate}
+use Rattle.forms.specs.Bytes.{byte, tabulate}
+use Rattle.forms.specs.GraphForm.{vertexCount, arcCount, flags, arcAt, arcTail, arcHead}
+use Rattle.forms.specs.GraphOf.{vertexOf, arcOf, arcsOf, graphOf}
+use Rattle.forms.specs.GraphReads.{ArcsRight, Reads}
+use Rattle.forms.proofs.ArcLaws.{tailOf, headOf}
+use Rattle.forms.proofs.GraphFacts.{length-tabulate}
 use Rattle.builder.specs.Setup.{Counted}
 use Rattle.network.proofs.NetworkLaws.{same-or-not}
 

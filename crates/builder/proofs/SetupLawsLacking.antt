@@ -14,14 +14,14 @@ use Rattle.mathematics.specs.Lists.{All, lastOf}
 use Rattle.mathematics.specs.Graph.{Graph, Vertex}
 use Rattle.mathematics.specs.Cover.{Ask, vertexAsks, arcAsk, asks}
 use Rattle.mathematics.specs.Reach.{fromStart, toEnd, readLies, itemLies, askLies}
-use Rattle.checker.specs.declared.Verdict.{Verdict}
-use Rattle.checker.specs.Bytes.{byte, part, tabulate}
-use Rattle.checker.specs.GraphForm.{vertexCount, arcCount, readCount, arcAt, firstReadAt, readLength, readVertices, readEnd}
-use Rattle.checker.specs.GraphOf.{vertexOf, arcOf, readsFrom, graphOf}
-use Rattle.checker.specs.GraphFaults.{refusal, nothingRefused, then, firstFault}
-use Rattle.checker.specs.GraphReads.{ReadRight, ReadsRight, Reads}
-use Rattle.checker.proofs.GraphFacts.{length-tabulate}
-use Rattle.builder.specs.Build.{asksLieVerdict, readsLieVerdict}
+use Rattle.forms.specs.declared.Verdict.{Verdict}
+use Rattle.forms.specs.Bytes.{byte, part, tabulate}
+use Rattle.forms.specs.GraphForm.{vertexCount, arcCount, readCount, arcAt, firstReadAt, readLength, readVertices, readEnd}
+use Rattle.forms.specs.GraphOf.{vertexOf, arcOf, readsFrom, graphOf}
+use Rattle.forms.specs.GraphFaults.{refusal, nothingRefused, then, firstFault}
+use Rattle.forms.specs.GraphReads.{ReadRight, ReadsRight, Reads}
+use Rattle.forms.proofs.GraphFacts.{length-tabulate}
+use Rattle.forms.specs.BuildFaults.{asksLieVerdict, readsLieVerdict}
 use Rattle.builder.specs.Setup.{Tells, Counted, Marked, vertexAsk, recordAsk, lacks, lieVerdict}
 use Rattle.builder.proofs.SetupLaws.{vertices-count}
 

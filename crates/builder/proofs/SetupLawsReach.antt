@@ -16,14 +16,14 @@ use Rattle.mathematics.specs.Graph.{Graph, WellFormed, isStart, isEnd, joins, h
 use Rattle.mathematics.specs.Reach.{fromStart, toEnd}
 use Rattle.mathematics.proofs.Basics.{and-l, and-r, or-cases, or-l, or-r, is-true, is-false}
 use Rattle.mathematics.proofs.Reach.{linked-first, linked-rest, start-from-start, end-to-end, from-start-path, from-start-arc, to-end-path, to-end-arc, to-end-iff, LeadsTo}
-use Rattle.checker.specs.Bytes.{tabulate}
-use Rattle.checker.specs.GraphForm.{vertexCount, arcCount, arcAt, arcTail, arcHead}
-use Rattle.checker.specs.GraphOf.{arcOf, arcsOf, graphOf}
-use Rattle.checker.specs.GraphReads.{Reads}
-use Rattle.checker.proofs.GraphFacts.{graph-well-formed}
+use Rattle.forms.specs.Bytes.{tabulate}
+use Rattle.forms.specs.GraphForm.{vertexCount, arcCount, arcAt, arcTail, arcHead}
+use Rattle.forms.specs.GraphOf.{arcOf, arcsOf, graphOf}
+use Rattle.forms.specs.GraphReads.{Reads}
+use Rattle.forms.proofs.GraphFacts.{graph-well-formed}
 use Rattle.builder.specs.Setup.{Tells}
 use Rattle.network.proofs.NetworkLaws.{same-or-not, below-or-not}
-use Rattle.checker.proofs.ArcLaws.{tailOf, headOf}
+use Rattle.forms.proofs.ArcLaws.{tailOf, headOf}
 use Rattle.builder.proofs.SetupLaws.{vertices-count, arc-there, arc-number, arc-inside, tails-rise}
 
 same-test : (a b : Bool) → (T a → T b) → (T b → T a) → a ≡ b

@@ -20,13 +20,13 @@ use Rattle.mathematics.proofs.Prepared.{prepared-fewer}
 use Rattle.mathematics.proofs.Base.{usefulItem, Useful}
 use Rattle.mathematics.proofs.Lying.{idle-asks, prepared-useful}
 use Rattle.mathematics.proofs.Links.{Link, opening, closing, inside, across, reading, inNode, outNode, linkFrom, linkTo, OfGraph}
-use Rattle.checker.specs.Bytes.{tabulate}
-use Rattle.checker.specs.GraphForm.{vertexCount, arcCount, openingPrice, vertexDemand, arcAt, arcTail, arcHead, arcCost, arcDemand}
-use Rattle.checker.specs.GraphOf.{vertexOf, arcOf, graphOf}
-use Rattle.checker.specs.GraphReads.{Reads}
+use Rattle.forms.specs.Bytes.{tabulate}
+use Rattle.forms.specs.GraphForm.{vertexCount, arcCount, openingPrice, vertexDemand, arcAt, arcTail, arcHead, arcCost, arcDemand}
+use Rattle.forms.specs.GraphOf.{vertexOf, arcOf, graphOf}
+use Rattle.forms.specs.GraphReads.{Reads}
 use Rattle.reads.proofs.TableLaws.{at-all}
-use Rattle.checker.proofs.GraphFacts.{graph-well-formed, graph-within}
-use Rattle.checker.proofs.GraphRange.{vertices-length}
+use Rattle.forms.proofs.GraphFacts.{graph-well-formed, graph-within}
+use Rattle.forms.proofs.GraphRange.{vertices-length}
 use Rattle.network.specs.Network.{at, liveAt, sumTo, Way, stop, step, base, reach, Shape, Keys, Waiting, leaving, entering, share}
 use Rattle.paths.specs.Slots.{preparedOf, plainSlots, allSlots, insideSlot, acrossSlot, openingSlot, closingSlot, readingSlot, linkAt, liveNode, inUse, edgeFrom, edgeTo, edgeCost, firstLoad}
 use Rattle.builder.specs.Finish.{arcItem}

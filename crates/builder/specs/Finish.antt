@@ -12,10 +12,10 @@ use Rattle.mathematics.specs.Cover.{Item, arc}
 use Rattle.mathematics.specs.Reach.{useful}
 use Rattle.mathematics.proofs.Links.{inNode, outNode, linkFrom, linkTo}
 use Rattle.mathematics.proofs.Marked.{sideMark}
-use Rattle.checker.specs.GraphForm.{vertexCount, arcCount, openingPrice, arcAt, arcTail, arcHead, arcCost}
-use Rattle.checker.specs.GraphOf.{graphOf}
-use Rattle.checker.specs.GraphReads.{Reads}
-use Rattle.checker.specs.GraphFaults.{nothingRefused}
+use Rattle.forms.specs.GraphForm.{vertexCount, arcCount, openingPrice, arcAt, arcTail, arcHead, arcCost}
+use Rattle.forms.specs.GraphOf.{graphOf}
+use Rattle.forms.specs.GraphReads.{Reads}
+use Rattle.forms.specs.GraphFaults.{nothingRefused}
 use Rattle.checker.specs.Check.{checkVerdict}
 use Rattle.network.specs.Network.{at, sumTo, base, reach}
 use Rattle.paths.specs.Slots.{preparedOf, plainSlots, acrossSlot, readingSlot, linkAt, inUse, edgeCost, firstLoad}

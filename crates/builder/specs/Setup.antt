@@ -8,11 +8,11 @@ use lib.IntN.{ℤ}
 use Rattle.mathematics.specs.Graph.{Graph, isStart, isEnd}
 use Rattle.mathematics.specs.Cover.{Ask, vert, arc, asks}
 use Rattle.mathematics.specs.Reach.{fromStart, toEnd, useful, askLies}
-use Rattle.checker.specs.declared.Verdict.{Verdict}
-use Rattle.checker.specs.GraphForm.{vertexCount, arcCount, vertexDemand, arcTail, arcHead, arcDemand}
-use Rattle.checker.specs.GraphOf.{graphOf}
-use Rattle.checker.specs.GraphReads.{Reads}
-use Rattle.builder.specs.Build.{asksLieVerdict, readsLieVerdict}
+use Rattle.forms.specs.declared.Verdict.{Verdict}
+use Rattle.forms.specs.GraphForm.{vertexCount, arcCount, vertexDemand, arcTail, arcHead, arcDemand}
+use Rattle.forms.specs.GraphOf.{graphOf}
+use Rattle.forms.specs.GraphReads.{Reads}
+use Rattle.forms.specs.BuildFaults.{asksLieVerdict, readsLieVerdict}
 
 -- n and m are the numbers of vertices and arcs of a form that reads
 pub record Counted (s : List ℕ) (n m : ℕ) : Type 0 where

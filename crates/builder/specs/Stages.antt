@@ -9,9 +9,9 @@ use mathlib.Core.Logic.{_≢_}
 use lib.ListN.{length, set}
 use Rattle.mathematics.specs.Exists.{Coverable}
 use Rattle.mathematics.specs.Reach.{useful}
-use Rattle.checker.specs.GraphForm.{vertexCount}
-use Rattle.checker.specs.GraphOf.{graphOf}
-use Rattle.checker.specs.GraphReads.{Reads}
+use Rattle.forms.specs.GraphForm.{vertexCount}
+use Rattle.forms.specs.GraphOf.{graphOf}
+use Rattle.forms.specs.GraphReads.{Reads}
 use Rattle.reads.specs.ReadTable.{Leaves}
 use Rattle.network.specs.Network.{at, base}
 use Rattle.paths.specs.Slots.{preparedOf, allSlots}

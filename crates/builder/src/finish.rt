@@ -1,8 +1,8 @@
 // The end of a build: the marks of the vertices, the price, and the answer form in the output.
 use checker::Graph;
-use checker::bytes::be16;
-use checker::bytes::be32;
-use checker::bytes::wide;
+use forms::bytes::be16;
+use forms::bytes::be32;
+use forms::bytes::wide;
 ghost use mathlib.Core.Path.{_≡_};
 ghost use Prim.Native.Nat.{ℕ, _+_, _*_, _-_, _<_, _≤_};
 ghost use mathlib.Core.Bool.{cond, _&&_};

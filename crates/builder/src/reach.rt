@@ -1,20 +1,20 @@
 // Which vertices a start leads to and which lead on to an end, and the first item that asks for something and lies on no path.
 use checker::Graph;
 use checker::Verdict;
-use checker::bytes::be16;
-use checker::bytes::be32;
-use checker::bytes::wide;
+use forms::bytes::be16;
+use forms::bytes::be32;
+use forms::bytes::wide;
 ghost use mathlib.Core.Path.{_≡_};
 ghost use Prim.Native.Nat.{ℕ, _+_, _<_, _≤_};
 ghost use mathlib.Core.Bool.{false, _&&_};
 ghost use lib.ListN.{length, getD};
 ghost use Rattle.mathematics.specs.Graph.{isStart, isEnd};
 ghost use Rattle.mathematics.specs.Reach.{fromStart, toEnd, readLies};
-ghost use Rattle.checker.specs.GraphForm.{vertexCount, arcAt, readVertices};
-ghost use Rattle.checker.specs.GraphOf.{graphOf};
-ghost use Rattle.checker.specs.GraphReads.{Reads, ArcRight, ReadRight};
-ghost use Rattle.checker.specs.GraphFaults.{firstFault, nothingRefused};
-ghost use Rattle.builder.specs.Build.{readsLieVerdict};
+ghost use Rattle.forms.specs.GraphForm.{vertexCount, arcAt, readVertices};
+ghost use Rattle.forms.specs.GraphOf.{graphOf};
+ghost use Rattle.forms.specs.GraphReads.{Reads, ArcRight, ReadRight};
+ghost use Rattle.forms.specs.GraphFaults.{firstFault, nothingRefused};
+ghost use Rattle.forms.specs.BuildFaults.{readsLieVerdict};
 ghost use Rattle.builder.specs.Setup.{Tells, Counted, Marked, vertexAsk, recordAsk, lacks, lieVerdict};
 
 // Marks the starts.

@@ -1,17 +1,17 @@
 // The working network of a graph form: edges with their ends and costs, first loads, live nodes, and each node's surplus or deficit.
 use checker::Graph;
-use checker::bytes::be16;
-use checker::bytes::be32;
-use checker::bytes::wide;
+use forms::bytes::be16;
+use forms::bytes::be32;
+use forms::bytes::wide;
 ghost use mathlib.Core.Path.{_≡_};
 ghost use mathlib.Core.Bool.{_&&_, cond};
 ghost use lib.Dec.{ltb};
 ghost use Prim.Native.Nat.{ℕ, _+_, _*_, _-_, _<_, _≤_};
 ghost use lib.ListN.{length};
 ghost use Rattle.mathematics.specs.Reach.{useful};
-ghost use Rattle.checker.specs.GraphForm.{vertexCount, arcCount};
-ghost use Rattle.checker.specs.GraphOf.{graphOf};
-ghost use Rattle.checker.specs.GraphReads.{Reads};
+ghost use Rattle.forms.specs.GraphForm.{vertexCount, arcCount};
+ghost use Rattle.forms.specs.GraphOf.{graphOf};
+ghost use Rattle.forms.specs.GraphReads.{Reads};
 ghost use Rattle.reads.specs.ReadTable.{Leaves};
 ghost use Rattle.network.specs.Network.{at};
 ghost use Rattle.paths.specs.Slots.{preparedOf, plainSlots, allSlots};

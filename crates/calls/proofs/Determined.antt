@@ -3,8 +3,8 @@
 use Prim.Native.Nat.{ℕ}
 use mathlib.Core.Path.{_≡_, sym, ap, _∙_}
 use mathlib.Core.List.{List}
-use Rattle.checker.specs.declared.Verdict.{Verdict}
-use Rattle.checker.specs.GraphFaults.{refusal}
+use Rattle.forms.specs.declared.Verdict.{Verdict}
+use Rattle.forms.specs.GraphFaults.{refusal}
 use Rattle.calls.specs.Copied.{copied, copiedCount}
 
 -- the calls that answer a number and store its place: `v` is the verdict that their promises name

@@ -4,7 +4,7 @@ ghost use Prim.Native.Nat.{_≤_};
 ghost use mathlib.Core.Path.{_≡_};
 ghost use mathlib.Core.List.{_++_};
 ghost use lib.ListN.{length, drop};
-ghost use Rattle.checker.specs.GraphFaults.{refusal, graphVerdict};
+ghost use Rattle.forms.specs.GraphFaults.{refusal, graphVerdict};
 ghost use Rattle.checker.specs.Check.{checkVerdict, handOutVerdict, handedOut};
 ghost use Rattle.builder.specs.Build.{BuildPromise};
 ghost use Rattle.calls.specs.Copied.{copied, copiedCount};

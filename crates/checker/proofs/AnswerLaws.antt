@@ -1,25 +1,22 @@
 -- What reading an answer form gives: a law for each way through the functions that test its header, marks and paths.
 use Prim.Native.Nat.{ℕ, zero, suc, _+_, _-_, _*_, _<_, _≤_}
 use native.Mathlib.Nat.{add-zero, sub-zero}
-use native.Mathlib.Numerals.{add-one}
 use native.Mathlib.Decide.{decLt}
 use native.Mathlib.Omega.{arith}
 use mathlib.Core.Path.{_≡_, refl, sym, ap, _∙_}
-use mathlib.Core.List.{List, [], _∷_}
+use mathlib.Core.List.{List}
 use mathlib.Core.Bool.{Bool, true, false, cond, not, _&&_, _||_}
-use lib.Dec.{ltb, leb, eqb, leb·zero, leb·suc-zero, leb·suc-suc}
+use lib.Dec.{ltb, eqb}
 use lib.ListN.{length}
-use lib.Seq.{drop-cons}
-use lib.IntN.{pos, negℤ, subℕ}
-use lib.Signed.{leZ}
-use borrow.Author.Tests.{lt-ltb, le-ltb, le-leb, lt-leb, eq-eqb, ne-eqb}
-use Rattle.checker.specs.declared.Verdict.{Verdict}
-use Rattle.checker.specs.Bytes.{byte, be32, part}
-use Rattle.checker.specs.Limits.{maxPaths, markLimit}
-use Rattle.checker.specs.GraphForm.{vertexCount}
-use Rattle.checker.specs.GraphFaults.{refusal, nothingRefused, orElse, then}
-use Rattle.checker.specs.AnswerForm.{answerLengthWord, answerVersion, pathCount, firstPathAt, signed32, pathWeight, pathVertices, pathEnd}
-use Rattle.checker.specs.AnswerFaults.{answerHeaderVerdict, markFault, marksVerdict, listBefore, pathFault, pathsVerdict}
+use borrow.Author.Tests.{lt-ltb, le-ltb, eq-eqb, ne-eqb}
+use Rattle.forms.specs.declared.Verdict.{Verdict}
+use Rattle.forms.specs.Bytes.{byte, part}
+use Rattle.forms.specs.Limits.{maxPaths}
+use Rattle.forms.specs.GraphForm.{vertexCount}
+use Rattle.forms.specs.GraphFaults.{refusal, nothingRefused, orElse, then}
+use Rattle.forms.specs.AnswerForm.{answerLengthWord, answerVersion, pathCount, firstPathAt, pathWeight, pathVertices, pathEnd}
+use Rattle.forms.specs.AnswerFaults.{answerHeaderVerdict, markFault, marksVerdict, listBefore, pathFault, pathsVerdict}
+use Rattle.forms.proofs.PartLaws.{part-cons, part-none}
 
 module _ (s t : List ℕ) where
   pub header-short : length t < firstPathAt (vertexCount s) → refusal 11 0 ≡ answerHeaderVerdict s t nothingRefused
@@ -44,75 +41,6 @@ module _ (s t : List ℕ) where
         pub header-right : pathCount t ≤ maxPaths → nothingRefused ≡ answerHeaderVerdict s t nothingRefused
         unfolding answerHeaderVerdict
         header-right h = simp (le-ltb _ _ long, eq-eqb _ _ word, eq-eqb _ _ one, le-ltb _ _ h)
-
--- the opposite of a is not above that of b exactly where b is not above a
-opposites : (a b : ℕ) → leZ (negℤ (pos a)) (negℤ (pos b)) ≡ leb b a
-opposites zero zero = refl
-opposites zero (suc b) = sym (leb·suc-zero b)
-opposites (suc a) zero = sym (leb·zero (suc a))
-opposites (suc a) (suc b) = sym (leb·suc-suc b a)
-
-opposite-low : (a b : ℕ) → leZ (negℤ (pos a)) (pos b) ≡ true
-opposite-low zero b = leb·zero b
-opposite-low (suc a) b = refl
-
-module _ (t : List ℕ) (at : ℕ) where
-  pub mark-low : be32 t at ≤ markLimit → 0 ≡ markFault t at
-  unfolding markFault signed32
-  mark-low h = simp (lt-ltb (be32 t at) 2_147_483_648 (omega arith), le-leb _ _ h)
-
-  pub mark-high : 2_294_967_296 ≤ be32 t at → 0 ≡ markFault t at
-  unfolding markFault signed32
-  mark-high h =
-      simp (
-        le-ltb (be32 t at) 2_147_483_648 (omega arith),
-        opposites markLimit (4294967296 - be32 t at),
-        opposite-low (4294967296 - be32 t at) markLimit,
-        le-leb (4294967296 - be32 t at) markLimit (omega arith),
-      )
-
-  pub mark-between : markLimit < be32 t at → be32 t at < 2_294_967_296 → 14 ≡ markFault t at
-  unfolding markFault signed32
-  mark-between h k = go (decLt (be32 t at) 2_147_483_648)
-    where
-      go : Dec (be32 t at < 2_147_483_648) → 14 ≡ markFault t at
-      go (yes l) = simp (lt-ltb _ _ l, lt-leb _ _ h)
-      go (no l) =
-          simp (
-            le-ltb (be32 t at) 2_147_483_648 (omega arith),
-            opposites markLimit (4294967296 - be32 t at),
-            lt-leb (4294967296 - be32 t at) markLimit (omega arith),
-          )
-
-  -- a mark in range that is not low is high
-  pub mark-right : (x : ℕ) → x ≡ be32 t at → markFault t at ≡ 0 → markLimit < x → 2_294_967_296 ≤ x
-  mark-right x same e h = go (decLt (be32 t at) 2_294_967_296)
-    where
-      go : Dec (be32 t at < 2_294_967_296) → 2_294_967_296 ≤ x
-      go (yes l) = absurd (let z : _≡_ {A = ℕ} 14 0 = mark-between (omega arith) l ∙ e in omega arith)
-      go (no l) = omega arith
-
-  pub mark-of-low : (x : ℕ) → x ≡ be32 t at → x ≤ markLimit → signed32 t at ≡ subℕ (x + markLimit) markLimit
-  unfolding signed32
-  mark-of-low x e h =
-      let same : be32 t at + markLimit - markLimit ≡ be32 t at = omega arith in
-      rw e
-      (simp (
-        lt-ltb (be32 t at) 2_147_483_648 (omega arith),
-        le-ltb (be32 t at + markLimit) markLimit (omega arith),
-        same,
-      ))
-
-  pub mark-of-high : (x : ℕ) → x ≡ be32 t at → 2_294_967_296 ≤ x → x < 4_294_967_296 → signed32 t at ≡ subℕ (x - 2_294_967_296) markLimit
-  unfolding signed32
-  mark-of-high x e h k =
-      let same : 4_294_967_296 - be32 t at ≡ suc (markLimit - suc (be32 t at - 2_294_967_296)) = omega arith in
-      rw e
-      (simp (
-        le-ltb (be32 t at) 2_147_483_648 (omega arith),
-        lt-ltb (be32 t at - 2_294_967_296) markLimit (omega arith),
-        same,
-      ))
 
 marks-split : (t : List ℕ) (n at : ℕ) → 0 < n → marksVerdict t n at nothingRefused ≡ orElse (markFault t at) at (marksVerdict t (n - 1) (at + 4) nothingRefused)
 unfolding marksVerdict
@@ -147,18 +75,6 @@ module _ {t : List ℕ} {n left at : ℕ} (inv : MarksLeft t n left at) where
   marks-end h =
       let none : left ≡ 0 = omega arith in
       sym (inv .decide ∙ rw none)
-
--- a part that is not empty, by its first byte
-pub part-cons : (t : List ℕ) (at count : ℕ) → 0 < count → at < length t → part t at count ≡ byte t at ∷ part t (at + 1) (count - 1)
-unfolding part
-part-cons t at zero h k = absurd (omega arith)
-part-cons t at (suc count) h k =
-    let same : suc count - 1 ≡ count = omega arith in
-    rw (same, add-one, drop-cons t at 0)
-
-pub part-none : (t : List ℕ) (at : ℕ) → part t at 0 ≡ []
-unfolding part
-part-none t at = refl
 
 -- Two parts are the same up to i, and what is left of them decides which comes first.
 pub record BothLeft (t : List ℕ) (a la b lb i : ℕ) : Type 0 where

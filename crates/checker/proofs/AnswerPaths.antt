@@ -6,25 +6,26 @@ use mathlib.Core.Path.{_≡_, refl, sym, ap, _∙_}
 use mathlib.Core.List.{List, [], _∷_}
 use mathlib.Core.Bool.{Bool, true, false, cond, not, _&&_, _||_, or-assoc}
 use lib.Dec.{ltb, eqb}
-use lib.ListN.{length, getD}
+use lib.ListN.{length, getD, replicate, length-replicate}
 use lib.IntN.{pos, _+ℤ_, +ℤ-assoc, +ℤ-idl, +ℤ-idr}
 use borrow.Author.Tests.{lt-ltb, le-ltb, eq-eqb, ne-eqb}
 use Rattle.mathematics.specs.Price.{whole, times}
 use Rattle.mathematics.specs.Lists.{someHolds}
 use Rattle.mathematics.specs.Graph.{isPath}
 use Rattle.mathematics.specs.Cover.{Item, vert, Weighted, countOf, trail, arcCosts, total, paths, price}
-use Rattle.checker.specs.Bytes.{part}
-use Rattle.checker.specs.Limits.{maxVertices, maxArcs, maxReads, maxOpening, maxCost, maxWeight, maxPathLength}
-use Rattle.checker.specs.GraphForm.{vertexCount, arcCount, readCount, openingPrice}
-use Rattle.checker.specs.GraphOf.{graphOf, arcsOf}
-use Rattle.checker.specs.GraphFaults.{allBelow, refusal, nothingRefused, orElse}
-use Rattle.checker.specs.GraphReads.{Reads}
-use Rattle.checker.specs.AnswerForm.{pathCount, firstPathAt, pathHeaderLength, pathWeight, pathLength, pathVertices, pathEnd, pathOf, pathsFrom, coverOf}
-use Rattle.checker.specs.AnswerFaults.{listBefore, pathFault, pathsVerdict}
-use Rattle.checker.specs.Tallies.{readOf, arcItem, Marked, Room, PathWalked, pathHeadFault, PathHead, Recorded, PathRead, NothingTallied, PathsRead}
-use Rattle.checker.proofs.AnswerLaws.{part-none}
+use Rattle.forms.specs.Bytes.{part}
+use Rattle.forms.specs.Limits.{maxVertices, maxArcs, maxReads, maxOpening, maxCost, maxWeight, maxPathLength}
+use Rattle.forms.specs.GraphForm.{vertexCount, arcCount, readCount, openingPrice}
+use Rattle.forms.specs.GraphOf.{graphOf, arcsOf}
+use Rattle.forms.specs.GraphFaults.{allBelow, refusal, nothingRefused, orElse}
+use Rattle.forms.specs.GraphReads.{Reads}
+use Rattle.forms.specs.AnswerForm.{pathCount, firstPathAt, pathHeaderLength, pathWeight, pathLength, pathVertices, pathEnd, pathOf, pathsFrom, coverOf}
+use Rattle.forms.specs.AnswerFaults.{listBefore, pathFault, pathsVerdict}
+use Rattle.checker.specs.Tallies.{readOf, Marked, Room, PathWalked, pathHeadFault, PathHead, Recorded, PathRead, NothingTallied, PathsRead}
+use Rattle.certify.specs.Growth.{arcItem}
+use Rattle.forms.proofs.PartLaws.{part-none, part-length}
+use Rattle.certify.proofs.CertifyLawsCount.{same-at}
 use Rattle.checker.proofs.AnswerWalk.{through-few}
-use Rattle.checker.proofs.AnswerReads.{part-length}
 
 -- the head of a record: a law for each way through `path_head_fault`
 module _ (t : List ℕ) (at copies : ℕ) where
@@ -303,3 +304,15 @@ module _ {s t vl al : List ℕ} {met : List Bool} {p lp copies cost left at : �
 -- the same, told by a result that has these numbers
 pub paths-told : {s t vl al : List ℕ} {met : List Bool} {number place cost n q k : ℕ} → (number ≡ n) × (place ≡ q) × (cost ≡ k) → PathsRead s t vl al met n q k → PathsRead s t vl al met number place cost
 paths-told e h = rw (e .0, e .1, e .2) h
+
+-- nothing is tallied in arrays as they are made
+pub nothing-tallied : NothingTallied (replicate 64 0) (replicate 256 0) (replicate 16 false)
+nothing-tallied =
+    record {
+      vertices-long = length-replicate {A = ℕ} 64 0;
+      arcs-long = length-replicate {A = ℕ} 256 0;
+      reads-long = length-replicate 16 false;
+      vertices = same-at {A = ℕ} 0 64;
+      arcs = same-at {A = ℕ} 0 256;
+      reads = same-at false 16;
+    }

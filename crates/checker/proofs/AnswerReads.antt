@@ -7,21 +7,17 @@ use mathlib.Core.Path.{_≡_, refl, sym, ap, ap₂, _∙_}
 use mathlib.Core.List.{List, [], _∷_}
 use mathlib.Core.Bool.{Bool, true, false, _&&_, _||_, or-false}
 use lib.Dec.{eqb}
-use lib.ListN.{length, getD, set, length-take, length-drop, length-set}
+use lib.ListN.{length, getD, set, length-set}
 use lib.Seq.{getD-set-same, getD-set-other}
 use borrow.Author.Tests.{eq-eqb, ne-eqb}
 use Rattle.mathematics.specs.Lists.{All, begins, holds}
 use Rattle.mathematics.proofs.Parts.{Rising}
-use Rattle.checker.specs.Bytes.{byte, part}
-use Rattle.checker.specs.GraphForm.{readCount, firstReadAt, readLength, readVertices, readEnd}
-use Rattle.checker.specs.GraphOf.{readsFrom}
-use Rattle.checker.specs.GraphReads.{Reads, ReadRight, ReadsRight}
+use Rattle.forms.specs.Bytes.{byte, part}
+use Rattle.forms.specs.GraphForm.{readCount, firstReadAt, readLength, readVertices, readEnd}
+use Rattle.forms.specs.GraphOf.{readsFrom}
+use Rattle.forms.specs.GraphReads.{Reads, ReadRight, ReadsRight}
 use Rattle.checker.specs.Tallies.{readOf, Marked}
-use Rattle.checker.proofs.AnswerLaws.{part-cons, part-none}
-
-pub part-length : (s : List ℕ) (a n : ℕ) → a + n ≤ length s → length (part s a n) ≡ n
-unfolding part
-part-length s a n h = simp (length-take, length-drop) (omega arith)
+use Rattle.forms.proofs.PartLaws.{part-cons, part-none}
 
 -- a list whose numbers are all above v holds nothing that begins with v
 holds-above : (v : ℕ) (r p : List ℕ) → All (λ (w : ℕ). v < w) p → holds p (v ∷ r) ≡ false

@@ -1,36 +1,36 @@
--- Walking along a path of an answer: which arc is found, what one step adds to the totals, and the laws of the loop that walks.
+-- Walking along a path of an answer: what one step adds to the totals, and the laws of the loop that walks.
 use Prim.Native.Nat.{ℕ, zero, suc, _+_, _-_, _*_, _/_, _%_, _<_, _≤_}
-use native.Mathlib.Nat.{le-refl, zero-add, add-zero, sub-zero, mul-one, mul-zero, mul-add, mul-le-mul-left}
-use native.Mathlib.Decide.{decLt, ℕ-discrete}
+use native.Mathlib.Nat.{le-refl, zero-add, add-zero, sub-zero, mul-zero, mul-le-mul-left}
+use native.Mathlib.Decide.{ℕ-discrete}
 use native.Mathlib.Omega.{arith}
 use mathlib.Core.Path.{_≡_, refl, sym, ap, subst, _∙_}
 use mathlib.Core.List.{List, [], _∷_}
-use mathlib.Core.Bool.{Bool, true, false, cond, _&&_, and-false}
+use mathlib.Core.Bool.{Bool, true, false, _&&_, and-false}
 use lib.Dec.{T, eqb}
 use lib.ListN.{length, getD, set, length-set}
 use lib.Seq.{getD-set-same, getD-set-other}
 use lib.IntN.{ℤ, pos, _+ℤ_, +ℤ-assoc, +ℤ-idl, +ℤ-idr}
-use borrow.Author.Tests.{lt-ltb, le-ltb, eq-eqb, ne-eqb, eqb-true}
+use borrow.Author.Tests.{lt-ltb, le-ltb}
 use Rattle.mathematics.specs.Price.{whole}
-use Rattle.mathematics.specs.Graph.{Vertex, noVertex, Arc, joins, hasArc, isStart, isEnd, isPath}
-use Rattle.mathematics.specs.Cover.{Item, vert, arc, sameItem, oneIf, countOf, trail, costOf, arcCosts}
+use Rattle.mathematics.specs.Graph.{Vertex, noVertex, Arc, hasArc, isStart, isEnd, isPath}
+use Rattle.mathematics.specs.Cover.{Item, vert, countOf, trail, costOf, arcCosts}
 use Rattle.mathematics.proofs.Basics.{and-r}
 use Rattle.mathematics.proofs.Parts.{Rising}
 use Rattle.mathematics.proofs.Linked.{path-rising}
-use Rattle.checker.specs.declared.Found.the-variants.{At, Missing}
-use Rattle.checker.specs.Bytes.{byte, be32, part, tabulate}
-use Rattle.checker.specs.Limits.{maxVertices, maxArcs, maxCost, maxWeight}
-use Rattle.checker.specs.GraphForm.{vertexCount, arcCount, flags, arcAt, arcTail, arcHead, arcCost}
-use Rattle.checker.specs.GraphOf.{graphOf, vertexOf, arcOf, arcsOf}
-use Rattle.checker.specs.GraphFaults.{allBelow}
-use Rattle.checker.specs.GraphReads.{ArcsRight, Reads}
-use Rattle.checker.specs.ArcTable.{numberFrom, arcNumber}
-use Rattle.checker.specs.Tallies.{arcItem, onward, goesOnTo, Room, Grown, Walked, PathWalked}
-use Rattle.checker.proofs.AnswerLaws.{part-cons, part-none}
-use Rattle.checker.proofs.AnswerReads.{part-length}
-use Rattle.checker.proofs.GraphFacts.{ends-differ, graph-well-formed}
-use Rattle.checker.proofs.Lookup.{found-iff-goes}
-use Rattle.checker.proofs.WalkLaws.{isAt, found-is}
+use Rattle.forms.specs.declared.Found.the-variants.{At, Missing}
+use Rattle.forms.specs.Bytes.{byte, be32, part, tabulate}
+use Rattle.forms.specs.Limits.{maxVertices, maxArcs, maxCost, maxWeight}
+use Rattle.forms.specs.GraphForm.{vertexCount, arcCount, flags, arcAt, arcCost}
+use Rattle.forms.specs.GraphOf.{graphOf, vertexOf, arcsOf}
+use Rattle.forms.specs.GraphFaults.{allBelow}
+use Rattle.forms.specs.GraphReads.{ArcsRight, Reads}
+use Rattle.forms.specs.ArcTable.{arcNumber}
+use Rattle.certify.specs.Growth.{arcItem, onward, Grown}
+use Rattle.checker.specs.Tallies.{goesOnTo, Room, Walked, PathWalked}
+use Rattle.forms.proofs.PartLaws.{part-cons, part-none, part-length}
+use Rattle.forms.proofs.GraphFacts.{graph-well-formed}
+use Rattle.forms.proofs.WalkLaws.{isAt, found-is}
+use Rattle.certify.proofs.GrowthLaws.{TheArc, found-arc, only-arc, grow, count-few, length-onward, trail-onward}
 
 -- entry i of a tabulated list
 getD-tabulate : {A : Type 0} (f : ℕ → A) (count first i : ℕ) (d : A) → i < count → getD (tabulate f count first) i d ≡ f (first + i)
@@ -49,87 +49,11 @@ module _ (s : List ℕ) (v : ℕ) (inside : v < vertexCount s) where
   unfolding graphOf
   end-is = ap (λ (x : Vertex). x .end) (getD-tabulate (vertexOf s) (vertexCount s) 0 v noVertex inside) ∙ rw zero-add
 
--- arc k is the one from u to v
-pub record TheArc (s : List ℕ) (u v k : ℕ) : Type 0 where
-  pub inside : k < arcCount s
-  pub tail : arcTail s (arcAt s k) ≡ u
-  pub head : arcHead s (arcAt s k) ≡ v
-  pub cost : costOf whole (arcsOf s) u v ≡ pos (arcCost s (arcAt s k))
-  pub has : hasArc (arcsOf s) u v ≡ true
-
-module _ (s : List ℕ) (u v : ℕ) where
-  -- the cost of the first arc from u to v, among count arcs from arc i on
-  cost-from : (count i k : ℕ) → numberFrom (tabulate (arcOf s) count i) u v i ≡ At k → costOf whole (tabulate (arcOf s) count i) u v ≡ pos (arcCost s (arcAt s k))
-  unfolding numberFrom
-  cost-from zero i k e = absurd (let z : _≡_ {A = ℕ} 0 1 = cc in omega arith)
-  cost-from (suc count) i k e = by (joins (arcOf s i) u v) (λ f. cost-from count (suc i) k f) e
-    where
-      by : (b : Bool) → (numberFrom (tabulate (arcOf s) count (suc i)) u v (suc i) ≡ At k → costOf whole (tabulate (arcOf s) count (suc i)) u v ≡ pos (arcCost s (arcAt s k))) → cond b (At i) (numberFrom (tabulate (arcOf s) count (suc i)) u v (suc i)) ≡ At k → cond b (pos (arcCost s (arcAt s i))) (costOf whole (tabulate (arcOf s) count (suc i)) u v) ≡ pos (arcCost s (arcAt s k))
-      by true more e =
-          let same : i ≡ k = cc in
-          rw same
-      by false more e = more e
-
-  pub found-arc : ArcsRight s → (k : ℕ) → At k ≡ arcNumber (arcsOf s) u v → TheArc s u v k
-  found-arc right k e =
-      let goes = found-iff-goes s u v right k .0 (sym e) in
-      record {
-        inside = goes .0;
-        tail = goes .1;
-        head = goes .2;
-        cost = cost-from (arcCount s) 0 k (sym e);
-        has = sym (found-is (arcsOf s) u v 0) ∙ ap isAt (sym e);
-      }
-
-module _ (s : List ℕ) (right : ArcsRight s) where
-  arcs-once : (j k : ℕ) → j < arcCount s → k < arcCount s → arcTail s (arcAt s j) ≡ arcTail s (arcAt s k) → arcHead s (arcAt s j) ≡ arcHead s (arcAt s k) → j ≡ k
-  arcs-once j k hj hk t h = go (decLt j k) (decLt k j)
-    where
-      go : Dec (j < k) → Dec (k < j) → j ≡ k
-      go (yes l) e = absurd (ends-differ s right j k l hk t h)
-      go (no l) (yes m) = absurd (ends-differ s right k j m hj (sym t) (sym h))
-      go (no l) (no m) = omega arith
-
-  -- of the arcs only arc k goes from u to v
-  pub only-arc : (u v k j : ℕ) → TheArc s u v k → j < arcCount s → sameItem (arcItem s j) (arc u v) ≡ eqb j k
-  only-arc u v k j f h = go (ℕ-discrete j k)
-    where
-      go : Dec (j ≡ k) → sameItem (arcItem s j) (arc u v) ≡ eqb j k
-      go (yes e) = rw (e, eq-eqb _ _ (f .tail), eq-eqb _ _ (f .head)) (sym (eq-eqb k k refl))
-      go (no e) = other (eqb (arcTail s (arcAt s j)) u) (eqb (arcHead s (arcAt s j)) v) refl refl ∙ sym (ne-eqb j k e)
-        where
-          other : (x y : Bool) → eqb (arcTail s (arcAt s j)) u ≡ x → eqb (arcHead s (arcAt s j)) v ≡ y → (eqb (arcTail s (arcAt s j)) u && eqb (arcHead s (arcAt s j)) v) ≡ false
-          other true true p q =
-              absurd (e (arcs-once j k h (f .inside) (eqb-true _ _ p ∙ sym (f .tail)) (eqb-true _ _ q ∙ sym (f .head))))
-          other true false p q = rw (p, q)
-          other false y p q = rw p
-
--- a total that grows by the weight, with c more to come
-pub grow : (l : List ℕ) (i w x c : ℕ) → i < length l → getD (set l i (getD l i 0 + w)) x 0 + w * c ≡ getD l x 0 + w * (oneIf (eqb x i) + c)
-grow l i w x c h = go (ℕ-discrete x i)
-  where
-    go : Dec (x ≡ i) → getD (set l i (getD l i 0 + w)) x 0 + w * c ≡ getD l x 0 + w * (oneIf (eqb x i) + c)
-    go (yes e) = rw (e, getD-set-same l i (getD l i 0 + w) 0 h, eq-eqb i i refl, mul-add, mul-one) (omega arith)
-    go (no e) = rw (getD-set-other l i x (getD l i 0 + w) 0 e, ne-eqb x i e, zero-add)
-
--- an item is among the items at most as often as there are items
-pub count-few : (i : Item) (js : List Item) → countOf i js ≤ length js
-count-few i [] = le-refl 0
-count-few i (j ∷ js) = go (sameItem i j) (count-few i js)
-  where
-    go : (b : Bool) → countOf i js ≤ length js → oneIf b + countOf i js ≤ suc (length js)
-    go true h = omega arith
-    go false h = omega arith
-
 -- the cost of arc k, read where it stands
 pub cost-read : (s : List ℕ) (n k r : ℕ) → Reads s → n ≡ vertexCount s → k < arcCount s → r ≡ be32 s (13 + 5 * n + 10 * k + 2) → (r ≡ arcCost s (arcAt s k)) × (r ≤ maxCost)
 cost-read s n k r reads e inside read =
     let same : r ≡ arcCost s (arcAt s k) = rw e at read in
     (same, omega (arith, reads .arcs .each k inside .low-cost))
-
-pub length-onward : (u : ℕ) (q : List ℕ) → length (onward u q) ≡ 2 * length q
-length-onward u [] = refl
-length-onward u (v ∷ q) = omega (arith, length-onward v q)
 
 -- what goes on from u to v and from there along q
 module _ (s : List ℕ) (u v : ℕ) (q : List ℕ) where
@@ -265,10 +189,6 @@ module _ {s t : List ℕ} {b lb from weight : ℕ} {vb vt ab at : List ℕ} {u c
         }
 
 -- A whole path: its first vertex is counted, and from there on the walk goes on.
-pub trail-onward : (u : ℕ) (q : List ℕ) → trail (u ∷ q) ≡ vert u ∷ onward u q
-trail-onward u [] = refl
-trail-onward u (v ∷ q) = ap (λ (is : List Item). vert u ∷ arc u v ∷ is) (trail-onward v q)
-
 -- a path passes at most twice as many vertices and arcs as it has vertices
 pub through-few : (i : Item) (p : List ℕ) → countOf i (trail p) ≤ 2 * length p
 through-few i [] = le-refl 0

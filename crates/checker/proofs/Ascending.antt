@@ -8,7 +8,7 @@ use mathlib.Core.Logic.{_⊎_, inl, inr}
 use lib.Dec.{T, ltb, eqb, ltb→lt, lt→ltb, eqb→eq, eqb-refl}
 use Rattle.mathematics.specs.Lists.{All, Distinct}
 use Rattle.mathematics.proofs.Basics.{and-l, and-r, and-in, or-cases, or-l, or-r, all-weaken}
-use Rattle.checker.specs.AnswerFaults.{listBefore}
+use Rattle.forms.specs.AnswerFaults.{listBefore}
 
 -- each list comes before the next; `before` comes before the first
 abbrev pub Ascending : List ℕ → List (List ℕ) → Type 0

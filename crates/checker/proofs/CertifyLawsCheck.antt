@@ -2,29 +2,29 @@
 use Prim.Native.Nat.{ℕ, zero, suc, _+_, _*_, _<_, _≤_}
 use native.Mathlib.Nat.{add-zero, zero-add}
 use native.Mathlib.Omega.{arith}
-use mathlib.Core.Path.{_≡_, refl, sym, ap, ap₂, subst, _∙_}
-use mathlib.Core.List.{List, [], _∷_, _++_, map}
+use mathlib.Core.Path.{_≡_, refl, sym, ap, ap₂, _∙_}
+use mathlib.Core.List.{List, _++_, map}
 use mathlib.Core.Bool.{Bool, true, false, cond, not, _&&_}
 use lib.Dec.{leb, eqb}
 use lib.ListN.{length, getD}
-use lib.IntN.{ℤ, pos}
-use borrow.Author.Tests.{eqb-true, eqb-false, le-leb, lt-leb, leb-true, leb-false, eq-eqb, ne-eqb}
+use lib.IntN.{pos}
+use borrow.Author.Tests.{eqb-true, eqb-false, le-leb, leb-true, eq-eqb, ne-eqb}
 use Rattle.mathematics.specs.Price.{whole}
 use Rattle.mathematics.specs.Bound.{bound}
-use Rattle.mathematics.specs.Cover.{vertexAsks, arcAsk, price}
-use Rattle.checker.specs.declared.Verdict.{Verdict}
-use Rattle.checker.specs.GraphForm.{vertexCount, arcCount, readCount, firstReadAt}
-use Rattle.checker.specs.GraphOf.{vertexOf, arcOf, arcsOf, readsFrom, graphOf}
-use Rattle.checker.specs.GraphFaults.{refusal, nothingRefused, then, firstFault}
-use Rattle.checker.specs.AnswerForm.{statedPrice, inMarkAt, outMarkAt, marksOf, firstPathAt, coverOf}
-use Rattle.checker.specs.AnswerFaults.{markFault, marksVerdict}
+use Rattle.mathematics.specs.Cover.{vertexAsks, arcAsk}
+use Rattle.forms.specs.declared.Verdict.{Verdict}
+use Rattle.forms.specs.GraphForm.{vertexCount, arcCount, readCount, firstReadAt}
+use Rattle.forms.specs.GraphOf.{vertexOf, arcOf, arcsOf, readsFrom, graphOf}
+use Rattle.forms.specs.GraphFaults.{refusal, nothingRefused, then, firstFault}
+use Rattle.forms.specs.AnswerForm.{statedPrice, inMarkAt, outMarkAt, marksOf, firstPathAt, coverOf}
+use Rattle.forms.specs.AnswerFaults.{markFault, marksVerdict}
 use Rattle.checker.specs.Tallies.{Tallied}
 use Rattle.checker.specs.Check.{samePrice, demandsVerdict, readsMetVerdict, vertexSlacksVerdict, arcSlacksVerdict, certificateVerdict}
-use Rattle.checker.specs.Certify.{arcPlace, readPlace, vertexUnmet, arcUnmet, readUnmet, vertexSlackFault, arcSlackFault, unmetVerdict, slacksVerdict, MarksStand, NoneBelow}
+use Rattle.certify.specs.Certify.{arcPlace, readPlace, vertexUnmet, arcUnmet, readUnmet, vertexSlackFault, arcSlackFault, unmetVerdict, slacksVerdict, MarksStand, NoneBelow}
 use Rattle.checker.proofs.Accepted.{earlier-first, fault-refused}
-use Rattle.checker.proofs.RightLaws.{each-right}
-use Rattle.checker.proofs.ThenLaws.{then-refused, then-passed}
-use Rattle.checker.proofs.GraphFacts.{length-tabulate, length-reads}
+use Rattle.forms.proofs.RightLaws.{each-right}
+use Rattle.forms.proofs.ThenLaws.{then-refused, then-passed}
+use Rattle.forms.proofs.GraphFacts.{length-tabulate, length-reads}
 use Rattle.checker.proofs.CertifyLawsVerdict.{demands-of-vertices, demands-of-arcs, reads-are-met, slacks-of-vertices, slacks-of-arcs}
 
 then-after : (a b c : Verdict) → then a (then b c) ≡ then (then a b) c

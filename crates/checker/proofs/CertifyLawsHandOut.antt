@@ -8,12 +8,12 @@ use mathlib.Core.Bool.{Bool, true, false, cond}
 use lib.Dec.{ltb}
 use lib.ListN.{length, take, drop}
 use borrow.Author.Tests.{lt-ltb, le-ltb, ltb-true, eq-eqb, ne-eqb}
-use Rattle.checker.specs.Bytes.{byte, part}
-use Rattle.checker.specs.GraphForm.{vertexCount}
-use Rattle.checker.specs.GraphFaults.{refusal, nothingRefused}
-use Rattle.checker.specs.AnswerForm.{pathCount, firstPathAt, pathEnd, pathVertices}
+use Rattle.forms.specs.Bytes.{byte, part}
+use Rattle.forms.specs.GraphForm.{vertexCount}
+use Rattle.forms.specs.GraphFaults.{refusal, nothingRefused}
+use Rattle.forms.specs.AnswerForm.{pathCount, firstPathAt, pathEnd, pathVertices}
 use Rattle.checker.specs.Check.{checkVerdict, handOutVerdict, pathAt, handedOut}
-use Rattle.checker.specs.Certify.{PathsStand}
+use Rattle.checker.specs.Tallies.{PathsStand}
 use Rattle.checker.proofs.Accepted.{earlier-first, PathsRight, Accepted, number-zero-accepted}
 
 -- Of k paths to pass, left are still ahead, the next at an offset.

@@ -1,6 +1,6 @@
 -- The verdicts of numbers 19 and 21 as the code finds them, records of one kind after the other, are those of the definitions.
-use Prim.Native.Nat.{ℕ, zero, suc, _+_, _*_, _<_, _≤_}
-use native.Mathlib.Nat.{add-zero, zero-add}
+use Prim.Native.Nat.{ℕ, zero, suc, _+_, _<_, _≤_}
+use native.Mathlib.Nat.{add-zero}
 use native.Mathlib.Omega.{arith}
 use mathlib.Core.Path.{_≡_, refl, sym, ap, ap₂, _∙_}
 use mathlib.Core.List.{List, [], _∷_, _++_, map}
@@ -9,17 +9,17 @@ use lib.Dec.{leb, eqb, eqb·suc-zero}
 use lib.ListN.{length, getD}
 use Rattle.mathematics.specs.Price.{whole}
 use Rattle.mathematics.specs.Lists.{someHolds}
-use Rattle.mathematics.specs.Bound.{Marks, vertexSlacksHold, arcSlackHolds}
-use Rattle.mathematics.specs.Cover.{Ask, Weighted, vert, arc, vertexAsks, arcAsk, total, paths}
-use Rattle.checker.specs.declared.Verdict.{Verdict}
-use Rattle.checker.specs.Bytes.{tabulate}
-use Rattle.checker.specs.GraphForm.{vertexCount, arcCount, readCount, vertexDemand, arcAt, arcDemand}
-use Rattle.checker.specs.GraphOf.{vertexOf, arcOf, graphOf}
-use Rattle.checker.specs.GraphFaults.{refusal, nothingRefused, then, firstFault}
-use Rattle.checker.specs.AnswerForm.{marksOf}
-use Rattle.checker.specs.Tallies.{arcItem}
+use Rattle.mathematics.specs.Bound.{vertexSlacksHold, arcSlackHolds}
+use Rattle.mathematics.specs.Cover.{Ask, Weighted, vert, vertexAsks, arcAsk, total, paths}
+use Rattle.forms.specs.declared.Verdict.{Verdict}
+use Rattle.forms.specs.Bytes.{tabulate}
+use Rattle.forms.specs.GraphForm.{vertexDemand, arcAt, arcDemand}
+use Rattle.forms.specs.GraphOf.{vertexOf, arcOf, graphOf}
+use Rattle.forms.specs.GraphFaults.{refusal, then, firstFault}
+use Rattle.forms.specs.AnswerForm.{marksOf}
+use Rattle.certify.specs.Growth.{arcItem}
 use Rattle.checker.specs.Check.{demandsVerdict, readsMetVerdict, vertexSlacksVerdict, arcSlacksVerdict}
-use Rattle.checker.specs.Certify.{arcPlace, readPlace, vertexUnmet, arcUnmet, readUnmet, vertexSlackFault, arcSlackFault}
+use Rattle.certify.specs.Certify.{arcPlace, readPlace, vertexUnmet, arcUnmet, readUnmet, vertexSlackFault, arcSlackFault}
 
 -- a record that is right or refuses with a number above 0, and those after it
 one : (b : Bool) (number place : ℕ) (rest after : Verdict) → cond b (then rest after) (refusal (suc number) place) ≡ then (cond (eqb (cond b 0 (suc number)) 0) rest (refusal (cond b 0 (suc number)) place)) after

@@ -22,20 +22,20 @@ use Rattle.mathematics.proofs.Duality.{Best, strong-duality}
 use Rattle.mathematics.proofs.Lowest.{Shows, same-marks-serve, shown-is-lowest}
 use Rattle.mathematics.proofs.Limits.{whole-marks-fit, path-limit-464, weight-limit-320000016}
 use Rattle.mathematics.proofs.Existence.{cover-shows-coverable}
-use Rattle.checker.specs.Limits.{maxVertices, maxPaths, maxWeight, maxPathLength, maxOpening, maxCost}
-use Rattle.checker.specs.GraphForm.{vertexCount}
-use Rattle.checker.specs.GraphOf.{graphOf}
-use Rattle.checker.specs.GraphReads.{Reads}
-use Rattle.checker.specs.GraphFaults.{nothingRefused, allBelow, graphVerdict}
-use Rattle.checker.specs.AnswerForm.{pathCount, markLength, inMarkAt, outMarkAt, marksOf, firstPathAt, pathWeight, pathVertices, pathEnd, coverOf}
-use Rattle.checker.specs.AnswerFaults.{listBefore}
+use Rattle.forms.specs.Limits.{maxVertices, maxPaths, maxWeight, maxPathLength, maxOpening, maxCost}
+use Rattle.forms.specs.GraphForm.{vertexCount}
+use Rattle.forms.specs.GraphOf.{graphOf}
+use Rattle.forms.specs.GraphReads.{Reads}
+use Rattle.forms.specs.GraphFaults.{nothingRefused, allBelow, graphVerdict}
+use Rattle.forms.specs.AnswerForm.{pathCount, markLength, inMarkAt, outMarkAt, marksOf, firstPathAt, pathWeight, pathVertices, pathEnd, coverOf}
+use Rattle.forms.specs.AnswerFaults.{listBefore}
 use Rattle.checker.specs.Check.{samePrice, checkVerdict}
 use Rattle.checker.specs.Encode.{pathBytes, encodeAnswer, sorted}
 use Rattle.checker.proofs.Accepted.{MarkRight, MarksRight, PathsRight, Certified, Accepted, accepted-nothing-refused}
 use Rattle.checker.proofs.Ascending.{Ascending}
 use Rattle.checker.proofs.GraphReads.{number-zero-iff-reads}
-use Rattle.checker.proofs.GraphFacts.{graph-well-formed, graph-costs-hold, graph-within}
-use Rattle.checker.proofs.GraphRange.{vertices-length, demands-low, costs-low}
+use Rattle.forms.proofs.GraphFacts.{graph-well-formed, graph-costs-hold, graph-within}
+use Rattle.forms.proofs.GraphRange.{vertices-length, demands-low, costs-low}
 use Rattle.checker.proofs.Encoding
 use Rattle.checker.proofs.Encoding.{InRange, Bytes, Holdable, pathRecord, record-weight, record-length, record-path, record-end, record-split}
 use Rattle.checker.proofs.Inside.{all-below, path-inside}
@@ -95,7 +95,7 @@ module _ (s : List ℕ) (r : Reads s) where
       weight : pathWeight t at ≡ w .weight
       weight = record-weight w W p at e
 
-      count : Rattle.checker.specs.AnswerForm.pathLength t at ≡ length (w .path)
+      count : Rattle.forms.specs.AnswerForm.pathLength t at ≡ length (w .path)
       count = record-length w W p at e
 
       path : pathVertices t at ≡ w .path

@@ -17,13 +17,13 @@ use Rattle.mathematics.specs.Lists.{someHolds}
 use Rattle.mathematics.specs.Graph.{Vertex, Arc, Graph, isPath}
 use Rattle.mathematics.specs.Cover.{Ask, Weighted, asks, total, paths, price}
 use Rattle.mathematics.specs.Bound.{Marks, vertexSlacksHold, arcSlackHolds, bound}
-use Rattle.checker.specs.declared.Verdict.{Verdict}
-use Rattle.checker.specs.Limits.{maxPaths, maxWeight, markLimit, maxPathLength}
-use Rattle.checker.specs.GraphForm.{vertexCount}
-use Rattle.checker.specs.GraphOf.{graphOf}
-use Rattle.checker.specs.GraphFaults.{refusal, nothingRefused, orElse, allBelow, graphVerdict}
-use Rattle.checker.specs.AnswerForm.{answerLengthWord, answerVersion, pathCount, statedPrice, markLength, inMarkAt, signed32, marksOf, firstPathAt, pathHeaderLength, pathWeight, pathLength, pathVertices, pathEnd, coverOf}
-use Rattle.checker.specs.AnswerFaults.{answerHeaderVerdict, markFault, marksVerdict, listBefore, pathFault, pathsVerdict}
+use Rattle.forms.specs.declared.Verdict.{Verdict}
+use Rattle.forms.specs.Limits.{maxPaths, maxWeight, markLimit, maxPathLength}
+use Rattle.forms.specs.GraphForm.{vertexCount}
+use Rattle.forms.specs.GraphOf.{graphOf}
+use Rattle.forms.specs.GraphFaults.{refusal, nothingRefused, orElse, allBelow, graphVerdict}
+use Rattle.forms.specs.AnswerForm.{answerLengthWord, answerVersion, pathCount, statedPrice, markLength, inMarkAt, signed32, marksOf, firstPathAt, pathHeaderLength, pathWeight, pathLength, pathVertices, pathEnd, coverOf}
+use Rattle.forms.specs.AnswerFaults.{answerHeaderVerdict, markFault, marksVerdict, listBefore, pathFault, pathsVerdict}
 use Rattle.checker.specs.Check.{samePrice, demandsVerdict, readsMetVerdict, vertexSlacksVerdict, arcSlacksVerdict, certificateVerdict, answerVerdict, checkVerdict, handOutVerdict, handedOut}
 use Rattle.checker.proofs.GraphReads.{number-to-seven}
 use Rattle.checker.proofs.Accepted.{number-zero-accepted, accepted-nothing-refused}

@@ -15,9 +15,9 @@ use Rattle.mathematics.specs.Lists.{All}
 use Rattle.mathematics.specs.Cover.{Weighted}
 use Rattle.mathematics.specs.Bound.{Marks}
 use Rattle.mathematics.proofs.Basics.{all-append}
-use Rattle.checker.specs.Bytes.{byte, be16, be32, be64, part}
-use Rattle.checker.specs.Limits.{maxPaths, markLimit, maxPathLength, maxVertices}
-use Rattle.checker.specs.AnswerForm.{answerLengthWord, answerVersion, pathCount, statedPrice, inMarkAt, outMarkAt, signed32, marksOf, firstPathAt, pathWeight, pathLength, pathVertices, pathEnd, pathsFrom, coverOf}
+use Rattle.forms.specs.Bytes.{byte, be16, be32, be64, part}
+use Rattle.forms.specs.Limits.{maxPaths, markLimit, maxPathLength, maxVertices}
+use Rattle.forms.specs.AnswerForm.{answerLengthWord, answerVersion, pathCount, statedPrice, inMarkAt, outMarkAt, signed32, marksOf, firstPathAt, pathWeight, pathLength, pathVertices, pathEnd, pathsFrom, coverOf}
 use Rattle.checker.specs.Encode.{bytes16, bytes32, bytes64, word32, markBytes, pathBytes, afterLength, encodeAnswer}
 
 -- the bytes behind p are those of q

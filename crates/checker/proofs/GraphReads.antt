@@ -9,17 +9,17 @@ use mathlib.Core.Logic.{_↔_}
 use lib.Dec.{ltb, leb, eqb, lit≤}
 use lib.ListN.{length}
 use borrow.Author.Tests.{ltb-false, le-ltb, eq-eqb, eqb-true, eqb-false}
-use Rattle.checker.specs.declared.Verdict.{Verdict}
-use Rattle.checker.specs.Limits.{maxVertices, maxArcs, maxReads, maxOpening, maxCost, maxDemand, minReadLength, maxReadLength}
-use Rattle.checker.specs.GraphForm.{headerLength, lengthWord, version, vertexCount, arcCount, readCount, openingPrice, vertexLength, vertexAt, flags, vertexDemand, arcLength, arcAt, arcTail, arcHead, arcCost, arcDemand, firstReadAt, readLength, readVertices, readEnd}
-use Rattle.checker.specs.GraphOf.{arcsOf}
-use Rattle.checker.specs.GraphFaults.{refusal, nothingRefused, then, headerVerdict, firstFault, vertexFault, ascends, arcFault, verticesVerdict, arcsVerdict, walks, readFault, readsVerdict, graphVerdict}
-use Rattle.checker.specs.GraphReads.{VertexRight, ReadRight, ReadsRight, ArcsRight, Reads}
+use Rattle.forms.specs.declared.Verdict.{Verdict}
+use Rattle.forms.specs.Limits.{maxVertices, maxArcs, maxReads, maxOpening, maxCost, maxDemand, minReadLength, maxReadLength}
+use Rattle.forms.specs.GraphForm.{headerLength, lengthWord, version, vertexCount, arcCount, readCount, openingPrice, vertexLength, vertexAt, flags, vertexDemand, arcLength, arcAt, arcTail, arcHead, arcCost, arcDemand, firstReadAt, readLength, readVertices, readEnd}
+use Rattle.forms.specs.GraphOf.{arcsOf}
+use Rattle.forms.specs.GraphFaults.{refusal, nothingRefused, then, headerVerdict, firstFault, vertexFault, ascends, arcFault, verticesVerdict, arcsVerdict, walks, readFault, readsVerdict, graphVerdict}
+use Rattle.forms.specs.GraphReads.{VertexRight, ReadRight, ReadsRight, ArcsRight, Reads}
 use Rattle.checker.proofs.HeaderLaws.{header-right}
 use Rattle.checker.proofs.RecordLaws.{vertex-right, arc-last}
 use Rattle.checker.proofs.ReadLaws.{read-right}
-use Rattle.checker.proofs.RightLaws.{header-holds, vertex-holds, arcs-hold, read-holds, next-follows, before-follows, all-below, each-right, all-right}
-use Rattle.checker.proofs.ThenLaws.{then-passed}
+use Rattle.forms.proofs.RightLaws.{header-holds, vertex-holds, arcs-hold, read-holds, next-follows, before-follows, all-below, each-right, all-right}
+use Rattle.forms.proofs.ThenLaws.{then-passed}
 use Rattle.mathematics.proofs.Basics.{is-true}
 
 -- no refusal by the first, and none after it

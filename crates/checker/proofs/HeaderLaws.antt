@@ -4,9 +4,9 @@ use mathlib.Core.Path.{_≡_}
 use mathlib.Core.List.{List}
 use lib.ListN.{length}
 use borrow.Author.Tests.{lt-ltb, le-ltb, eq-eqb, ne-eqb}
-use Rattle.checker.specs.Limits.{maxVertices, maxArcs, maxReads, maxOpening}
-use Rattle.checker.specs.GraphForm.{headerLength, lengthWord, version, vertexCount, arcCount, readCount, openingPrice}
-use Rattle.checker.specs.GraphFaults.{headerVerdict, refusal, nothingRefused}
+use Rattle.forms.specs.Limits.{maxVertices, maxArcs, maxReads, maxOpening}
+use Rattle.forms.specs.GraphForm.{headerLength, lengthWord, version, vertexCount, arcCount, readCount, openingPrice}
+use Rattle.forms.specs.GraphFaults.{headerVerdict, refusal, nothingRefused}
 
 module _ (s : List ℕ) where
   pub header-short : length s < headerLength → refusal 1 0 ≡ headerVerdict s

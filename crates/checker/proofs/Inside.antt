@@ -8,7 +8,7 @@ use Rattle.mathematics.specs.Lists.{All, lastOf}
 use Rattle.mathematics.specs.Graph.{Graph, WellFormed, linked, isPath}
 use Rattle.mathematics.proofs.Basics.{and-in}
 use Rattle.mathematics.proofs.Reach.{linked-first, linked-rest, arc-rises, start-below, path-start, path-linked}
-use Rattle.checker.specs.GraphFaults.{allBelow}
+use Rattle.forms.specs.GraphFaults.{allBelow}
 
 pub all-below : (n : ℕ) (p : List ℕ) → All (λ v. v < n) p → T (allBelow n p)
 all-below n [] h = tt

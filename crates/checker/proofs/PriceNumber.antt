@@ -10,7 +10,7 @@ use lib.IntN.{ℤ, pos, _+ℤ_}
 use Rattle.mathematics.specs.Price.{whole, times}
 use Rattle.mathematics.specs.Lists.{All}
 use Rattle.mathematics.specs.Graph.{Arc, Graph, joins}
-use Rattle.checker.specs.GraphReads.{AtMost}
+use Rattle.forms.specs.GraphReads.{AtMost}
 use Rattle.mathematics.specs.Cover.{Weighted, costOf, arcCosts, copyPrice, totalWeight, price}
 
 add-at-most : (j k : ℕ) (x y : ℤ) → AtMost j x → AtMost k y → AtMost (j + k) (x +ℤ y)

@@ -7,11 +7,11 @@ use mathlib.Core.List.{List}
 use mathlib.Core.Bool.{Bool, true, false, cond}
 use lib.ListN.{length}
 use borrow.Author.Tests.{lt-ltb, le-ltb, le-leb, lt-leb, eq-eqb, ne-eqb}
-use Rattle.checker.specs.Bytes.{part}
-use Rattle.checker.specs.Limits.{minReadLength, maxReadLength}
-use Rattle.checker.specs.GraphForm.{vertexCount, readLength, readEnd}
-use Rattle.checker.specs.GraphOf.{arcsOf}
-use Rattle.checker.specs.GraphFaults.{walks, readFault, readsVerdict, refusal, nothingRefused}
+use Rattle.forms.specs.Bytes.{part}
+use Rattle.forms.specs.Limits.{minReadLength, maxReadLength}
+use Rattle.forms.specs.GraphForm.{vertexCount, readLength, readEnd}
+use Rattle.forms.specs.GraphOf.{arcsOf}
+use Rattle.forms.specs.GraphFaults.{walks, readFault, readsVerdict, refusal, nothingRefused}
 
 module _ (s : List ℕ) (at : ℕ) where
   pub read-missing : length s ≤ at → 5 ≡ readFault s at

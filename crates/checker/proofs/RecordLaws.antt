@@ -7,10 +7,10 @@ use mathlib.Core.Bool.{Bool, true, false, cond, _&&_, _||_}
 use lib.ListN.{length}
 use lib.Dec.{ltb, eqb}
 use borrow.Author.Tests.{lt-ltb, le-ltb, eq-eqb, ne-eqb, ltb-false, eqb-true}
-use Rattle.checker.specs.Bytes.{byte, be16}
-use Rattle.checker.specs.Limits.{maxDemand, maxCost}
-use Rattle.checker.specs.GraphForm.{vertexLength, vertexAt, flags, vertexDemand, arcLength, arcAt, arcCost, arcDemand, arcTail, arcHead, vertexCount}
-use Rattle.checker.specs.GraphFaults.{vertexFault, ascends, arcFault}
+use Rattle.forms.specs.Bytes.{byte, be16}
+use Rattle.forms.specs.Limits.{maxDemand, maxCost}
+use Rattle.forms.specs.GraphForm.{vertexLength, vertexAt, flags, vertexDemand, arcLength, arcAt, arcCost, arcDemand, arcTail, arcHead, vertexCount}
+use Rattle.forms.specs.GraphFaults.{vertexFault, ascends, arcFault}
 
 module _ (s : List ℕ) (v : ℕ) where
   pub vertex-short : length s < vertexAt s v + vertexLength → 5 ≡ vertexFault s v

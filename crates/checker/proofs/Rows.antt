@@ -20,19 +20,20 @@ use Rattle.mathematics.specs.Range.{OneOf}
 use Rattle.mathematics.specs.Reach.{itemList, itemLies, askLies, fromStart, toEnd}
 use Rattle.mathematics.proofs.Basics.{all-among, all-weaken}
 use Rattle.mathematics.proofs.Existence.{cover-shows-coverable, asks-linked, ask-lies}
-use Rattle.checker.specs.Bytes.{be16, be32, be64, part}
-use Rattle.checker.specs.GraphForm.{vertexCount}
-use Rattle.checker.specs.GraphOf.{graphOf}
-use Rattle.checker.specs.GraphFaults.{refusal, nothingRefused, then, firstFault, headerVerdict, vertexFault, arcFault, walks, readFault, readsVerdict, graphVerdict}
-use Rattle.checker.specs.AnswerForm.{statedPrice, signed32, marksOf, coverOf}
-use Rattle.checker.specs.AnswerFaults.{answerHeaderVerdict, markFault, marksVerdict, pathFault, pathsVerdict}
+use Rattle.forms.specs.Bytes.{be16, be32, be64, part}
+use Rattle.forms.specs.GraphForm.{vertexCount}
+use Rattle.forms.specs.GraphOf.{graphOf}
+use Rattle.forms.specs.GraphFaults.{refusal, nothingRefused, then, firstFault, headerVerdict, vertexFault, arcFault, walks, readFault, readsVerdict, graphVerdict}
+use Rattle.forms.specs.BuildFaults.{roomAsked, asksLieVerdict, readsLieVerdict, coverVerdict, buildVerdict}
+use Rattle.forms.specs.AnswerForm.{statedPrice, signed32, marksOf, coverOf}
+use Rattle.forms.specs.AnswerFaults.{answerHeaderVerdict, markFault, marksVerdict, pathFault, pathsVerdict}
 use Rattle.checker.specs.Check.{demandsVerdict, readsMetVerdict, vertexSlacksVerdict, arcSlacksVerdict, certificateVerdict, answerVerdict, checkVerdict}
 use Rattle.checker.proofs.GraphReads.{number-zero-iff-reads}
-use Rattle.checker.proofs.GraphFacts.{graph-well-formed}
+use Rattle.forms.proofs.GraphFacts.{graph-well-formed}
 use Rattle.checker.proofs.Soundness.{accepted-is-lowest}
 
 -- a row: graph bytes with, as the case may be, answer bytes, the paths and the price that they state; answer bytes and the refusal's number and place;
--- or the first item that asks for something and lies on no start-to-end path (the builder's refusal 8)
+-- or the first item that asks for something and lies on no start-to-end path, which is the place of the builder's refusal 8
 pub data Row : Type 0 where
   priced : List ℕ → List ℕ → List Weighted → ℕ → Row
   refused : List ℕ → List ℕ → ℕ → ℕ → Row
@@ -49,12 +50,13 @@ pub record ShutAt (G : Graph ℤ) (item : ℕ) : Type 0 where
   pub on-no-path : ItemOnPath G (getD (asks G) item noAsk .item) → ⊥
   pub no-cover : (W : List Weighted) → IsCover G W → ⊥
 
--- what a row claims: the answer is accepted, gives these paths at this price, and no cover has a lower one; the refusal; that there is no cover
+-- what a row claims: the answer is accepted, gives these paths at this price, and no cover has a lower one; the refusal; that there is no cover,
+-- and that the builder refuses with 8 even where the output has room
 abbrev pub RowHolds : Row → Type 0
 RowHolds (priced s t W p) =
     (checkVerdict s t ≡ nothingRefused) × (coverOf (vertexCount s) t ≡ W) × IsLowest whole (graphOf s) W × (price whole (graphOf s) W ≡ pos p)
 RowHolds (refused s t number place) = checkVerdict s t ≡ refusal number place
-RowHolds (shut s item) = (graphVerdict s .number ≡ 0) × ShutAt (graphOf s) item
+RowHolds (shut s item) = (graphVerdict s .number ≡ 0) × ShutAt (graphOf s) item × (buildVerdict s roomAsked ≡ refusal 8 item)
 
 abbrev copies : ℕ → List ℕ → Weighted
 copies w p = record { weight = w; path = p }
@@ -118,15 +120,16 @@ Computes (priced s t W p) = (checkVerdict s t ≡ nothingRefused) × (coverOf (v
 Computes (refused s t number place) = checkVerdict s t ≡ refusal number place
 Computes (shut s item) =
     (graphVerdict s .number ≡ 0) × T (ltb item (length (asks (graphOf s)))) ×
-    All (λ a. T (askLies (graphOf s) a)) (take item (asks (graphOf s))) × T (not (askLies (graphOf s) (getD (asks (graphOf s)) item noAsk)))
+    All (λ a. T (askLies (graphOf s) a)) (take item (asks (graphOf s))) × T (not (askLies (graphOf s) (getD (asks (graphOf s)) item noAsk))) ×
+    (buildVerdict s roomAsked ≡ refusal 8 item)
 
 rows-compute : All Computes rows
-unfolding rows prepare overlap longest joinAt bound be16 be32 be64 part graphOf then firstFault headerVerdict vertexFault arcFault walks readFault readsVerdict graphVerdict signed32 marksOf coverOf answerHeaderVerdict markFault marksVerdict pathFault pathsVerdict demandsVerdict readsMetVerdict vertexSlacksVerdict arcSlacksVerdict certificateVerdict answerVerdict checkVerdict fromStart toEnd
+unfolding rows prepare overlap longest joinAt bound be16 be32 be64 part graphOf then firstFault headerVerdict vertexFault arcFault walks readFault readsVerdict graphVerdict signed32 marksOf coverOf answerHeaderVerdict markFault marksVerdict pathFault pathsVerdict demandsVerdict readsMetVerdict vertexSlacksVerdict arcSlacksVerdict certificateVerdict answerVerdict checkVerdict fromStart toEnd asksLieVerdict readsLieVerdict coverVerdict buildVerdict
 rows-compute = (
   (refl, refl, refl),
   (
     (refl, refl, refl),
-    ((refl, refl, refl), ((refl, refl, refl), ((refl, refl, refl), ((refl, tt, tt, tt), ((refl, refl, refl), ((refl, refl, refl), (refl, (refl, (refl, (refl, tt)))))))))),
+    ((refl, refl, refl), ((refl, refl, refl), ((refl, refl, refl), ((refl, tt, tt, tt, refl), ((refl, refl, refl), ((refl, refl, refl), (refl, (refl, (refl, (refl, tt)))))))))),
   ),
 )
 
@@ -155,6 +158,7 @@ row-holds (shut s item) c = (
     on-no-path = off;
     no-cover = λ W w. off (all-among (λ a. 1 ≤ a .demand → ItemOnPath G (a .item)) (asks G) ask (cover-shows-coverable G W w .items-lie) one asked);
   },
+  c .4,
 )
   where
     G : Graph ℤ

@@ -16,7 +16,7 @@ use Rattle.mathematics.proofs.Basics.{test, all-among, all-from, all-weaken, al
 use Rattle.mathematics.proofs.Merge.{some-holds}
 use Rattle.mathematics.proofs.Existence.{held-by-some}
 use Rattle.mathematics.proofs.Totals.{equal-totals-equal-price}
-use Rattle.checker.specs.AnswerFaults.{listBefore}
+use Rattle.forms.specs.AnswerFaults.{listBefore}
 use Rattle.checker.specs.Encode.{insertPath, sorted}
 use Rattle.checker.proofs.Ascending.{Ascending, before-less, before-same, ascending-distinct}
 

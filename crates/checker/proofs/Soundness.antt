@@ -12,14 +12,14 @@ use Rattle.mathematics.specs.Bound.{bound}
 use Rattle.mathematics.proofs.Basics.{and-l, and-r}
 use Rattle.mathematics.proofs.PriceKinds.{whole-ordered}
 use Rattle.mathematics.proofs.Lowest.{shown-is-lowest}
-use Rattle.checker.specs.GraphForm.{vertexCount}
-use Rattle.checker.specs.GraphOf.{graphOf}
-use Rattle.checker.specs.AnswerForm.{pathCount, statedPrice, marksOf, firstPathAt, pathWeight, pathVertices, pathEnd, pathsFrom, coverOf}
+use Rattle.forms.specs.GraphForm.{vertexCount}
+use Rattle.forms.specs.GraphOf.{graphOf}
+use Rattle.forms.specs.AnswerForm.{pathCount, statedPrice, marksOf, firstPathAt, pathWeight, pathVertices, pathEnd, pathsFrom, coverOf}
 use Rattle.checker.specs.Check.{samePrice, checkVerdict}
 use Rattle.checker.proofs.Accepted.{PathsRight, Accepted, number-zero-accepted}
 use Rattle.checker.proofs.Ascending.{Ascending, ascending-distinct}
 use Rattle.checker.proofs.GraphReads.{number-zero-iff-reads}
-use Rattle.checker.proofs.GraphFacts.{graph-well-formed}
+use Rattle.forms.proofs.GraphFacts.{graph-well-formed}
 
 -- two prices of which neither is above the other are one
 same-price : (P : Prices) → Ordered P → (a b : P .El) → T (samePrice P a b) → a ≡ b

@@ -2,21 +2,21 @@
 -- as the answer is read, then 19, 20, 21, 22 in that order, and 23 after 22."
 use Prim.Native.Nat.{ℕ, zero, suc, _+_, _*_}
 use mathlib.Core.List.{List, [], _∷_}
-use mathlib.Core.Bool.{Bool, true, false, cond, not, _&&_, _||_}
+use mathlib.Core.Bool.{Bool, cond, not, _&&_}
 use lib.Dec.{ltb, leb, eqb}
 use lib.ListN.{length}
-use lib.IntN.{ℤ, pos}
+use lib.IntN.{pos}
 use Rattle.mathematics.specs.Price.{Prices, whole}
 use Rattle.mathematics.specs.Lists.{someHolds}
 use Rattle.mathematics.specs.Graph.{Vertex, Arc, Graph}
 use Rattle.mathematics.specs.Cover.{Ask, Weighted, asks, total, paths, price}
 use Rattle.mathematics.specs.Bound.{Marks, vertexSlacksHold, arcSlackHolds, bound}
-use Rattle.checker.specs.declared.Verdict.{Verdict}
-use Rattle.checker.specs.GraphForm.{vertexCount}
-use Rattle.checker.specs.GraphOf.{graphOf}
-use Rattle.checker.specs.GraphFaults.{refusal, nothingRefused, graphVerdict}
-use Rattle.checker.specs.AnswerForm.{pathCount, statedPrice, inMarkAt, marksOf, firstPathAt, pathVertices, pathEnd, coverOf}
-use Rattle.checker.specs.AnswerFaults.{answerHeaderVerdict, marksVerdict, pathsVerdict}
+use Rattle.forms.specs.declared.Verdict.{Verdict}
+use Rattle.forms.specs.GraphForm.{vertexCount}
+use Rattle.forms.specs.GraphOf.{graphOf}
+use Rattle.forms.specs.GraphFaults.{refusal, nothingRefused, graphVerdict}
+use Rattle.forms.specs.AnswerForm.{pathCount, statedPrice, inMarkAt, marksOf, firstPathAt, pathVertices, pathEnd, coverOf}
+use Rattle.forms.specs.AnswerFaults.{answerHeaderVerdict, marksVerdict, pathsVerdict}
 
 -- the two prices are equal: neither is above the other
 abbrev pub samePrice : (P : Prices) → P .El → P .El → Bool

@@ -6,7 +6,7 @@ use lib.ListN.{length}
 use lib.IntN.{ℤ, pos, negsuc}
 use Rattle.mathematics.specs.Cover.{Weighted}
 use Rattle.mathematics.specs.Bound.{Marks}
-use Rattle.checker.specs.AnswerFaults.{listBefore}
+use Rattle.forms.specs.AnswerFaults.{listBefore}
 
 -- "All numbers big-endian": a number in 2 bytes, in 4 bytes, in 8 bytes
 abbrev pub bytes16 : ℕ → List ℕ

@@ -1,14 +1,3 @@
-pub mod Bytes
-pub mod Limits
-pub mod GraphForm
-pub mod GraphFaults
-pub mod GraphOf
-pub mod AnswerForm
-pub mod AnswerFaults
 pub mod Check
-pub mod GraphReads
-pub mod ArcTable
-pub mod Certify
-pub mod Empty
 pub mod Tallies
 pub mod Encode

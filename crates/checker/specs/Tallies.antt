@@ -1,6 +1,6 @@
 -- What reading the paths of an answer tallies: for each vertex and arc the weights of the paths through it, for each read whether a path holds it,
 -- and the price of the paths. Document 01: "the weights of the paths through it total at least its demand, and each read is satisfied by some path".
-use Prim.Native.Nat.{ℕ, _+_, _*_, _<_, _≤_}
+use Prim.Native.Nat.{ℕ, zero, suc, _+_, _*_, _<_, _≤_}
 use mathlib.Core.Path.{_≡_}
 use mathlib.Core.List.{List, [], _∷_}
 use mathlib.Core.Bool.{Bool, true, false, cond, _&&_, _||_}
@@ -10,13 +10,14 @@ use lib.IntN.{pos}
 use Rattle.mathematics.specs.Price.{whole}
 use Rattle.mathematics.specs.Lists.{lastOf, holds, someHolds}
 use Rattle.mathematics.specs.Graph.{linked, isPath, isEnd}
-use Rattle.mathematics.specs.Cover.{Item, vert, arc, countOf, trail, arcCosts, total, paths, price}
-use Rattle.checker.specs.Limits.{maxVertices, maxArcs, maxReads, maxCost, maxWeight, maxPathLength}
-use Rattle.checker.specs.GraphForm.{vertexCount, arcCount, arcAt, arcTail, arcHead, readCount, firstReadAt}
-use Rattle.checker.specs.GraphOf.{graphOf, arcsOf, readsFrom}
-use Rattle.checker.specs.GraphFaults.{allBelow, refusal, nothingRefused}
-use Rattle.checker.specs.AnswerForm.{pathCount, firstPathAt, pathHeaderLength, pathWeight, pathLength, pathVertices, pathEnd, coverOf}
-use Rattle.checker.specs.AnswerFaults.{pathFault, pathsVerdict}
+use Rattle.mathematics.specs.Cover.{Item, vert, trail, arcCosts, total, paths, price}
+use Rattle.forms.specs.Limits.{maxVertices, maxArcs, maxReads, maxCost, maxWeight, maxPathLength}
+use Rattle.forms.specs.GraphForm.{vertexCount, arcCount, readCount, firstReadAt}
+use Rattle.forms.specs.GraphOf.{graphOf, arcsOf, readsFrom}
+use Rattle.forms.specs.GraphFaults.{allBelow, refusal, nothingRefused}
+use Rattle.forms.specs.AnswerForm.{pathCount, firstPathAt, pathHeaderLength, pathWeight, pathLength, pathVertices, pathEnd, coverOf}
+use Rattle.forms.specs.AnswerFaults.{pathFault, pathsVerdict}
+use Rattle.certify.specs.Growth.{arcItem, Grown}
 
 -- read r of a graph form
 abbrev pub readOf : List ℕ → ℕ → List ℕ
@@ -26,15 +27,6 @@ readOf s r = getD (readsFrom s (readCount s) (firstReadAt s)) r []
 pub record Marked (s p : List ℕ) (before after : List Bool) : Type 0 where
   pub long : length after ≡ maxReads
   pub met : (r : ℕ) → r < readCount s → getD after r false ≡ (getD before r false || holds p (readOf s r))
-
--- arc k of a graph form
-abbrev pub arcItem : List ℕ → ℕ → Item
-arcItem s k = arc (arcTail s (arcAt s k)) (arcHead s (arcAt s k))
-
--- the arcs and vertices that a path passes after u, in turn
-abbrev pub onward : ℕ → List ℕ → List Item
-onward u [] = []
-onward u (v ∷ q) = arc u v ∷ vert v ∷ onward v q
 
 -- the path goes on rightly from u along q: vertices of the graph, each pair an arc, the last an end
 unfoldable pub goesOnTo : List ℕ → ℕ → List ℕ → Bool
@@ -47,13 +39,6 @@ pub record Room (s vertexTotals arcTotals : List ℕ) (weight times : ℕ) : Typ
   pub arcs-long : length arcTotals ≡ maxArcs
   pub vertices-low : (v : ℕ) → v < maxVertices → getD vertexTotals v 0 ≤ times * maxWeight
   pub arcs-low : (k : ℕ) → k < arcCount s → getD arcTotals k 0 ≤ times * maxWeight
-
--- the total of each vertex and each arc has grown by the weight as often as it is among the items
-pub record Grown (s : List ℕ) (weight : ℕ) (items : List Item) (vb va ab aa : List ℕ) : Type 0 where
-  pub vertices-long : length va ≡ maxVertices
-  pub arcs-long : length aa ≡ maxArcs
-  pub vertices : (v : ℕ) → v < maxVertices → getD va v 0 ≡ getD vb v 0 + weight * countOf (vert v) items
-  pub arcs : (k : ℕ) → k < arcCount s → getD aa k 0 ≡ getD ab k 0 + weight * countOf (arcItem s k) items
 
 -- what walking along p gives: whether it is right, and where it is, the totals grown by the items on it and the costs of its arcs
 pub record Walked (s : List ℕ) (right : Bool) (items : List Item) (p : List ℕ) (weight : ℕ) (vb va ab aa : List ℕ) (ok : Bool) (cost : ℕ) : Type 0 where
@@ -115,3 +100,8 @@ pub record Tallied (s t vertexTotals arcTotals : List ℕ) (met : List Bool) (co
 pub record PathsRead (s t vertexTotals arcTotals : List ℕ) (met : List Bool) (number place cost : ℕ) : Type 0 where
   pub verdict : refusal number place ≡ pathsVerdict s t (pathCount t) (firstPathAt (vertexCount s)) [] 0 nothingRefused
   pub tallied : number ≡ 0 → Tallied s t vertexTotals arcTotals met cost
+
+-- the records of count paths, the first at an offset, lie within the answer
+abbrev pub PathsStand : List ℕ → ℕ → ℕ → Type 0
+PathsStand t zero at = Unit {0}
+PathsStand t (suc count) at = (pathEnd t at ≤ length t) × PathsStand t count (pathEnd t at)

@@ -1,51 +1,31 @@
 // Reading the answer form beside a graph form that reads: numbers 11 to 18.
-use crate::Answer;
-use crate::Found;
-use crate::Graph;
-use crate::Verdict;
-use crate::bytes::be16;
-use crate::bytes::be32;
-use crate::bytes::wide;
-use crate::reader::find_arc;
+use forms::Answer;
+use forms::Found;
+use forms::Graph;
+use forms::Verdict;
+use forms::arcs::find_arc;
+use forms::bytes::be16;
+use forms::bytes::be32;
+use forms::bytes::wide;
 ghost use mathlib.Core.Path.{_≡_};
 ghost use Prim.Native.Nat.{_+_, _*_, _<_, _≤_};
 ghost use mathlib.Core.List.{_∷_};
 ghost use lib.ListN.{length};
-ghost use lib.IntN.{subℕ};
 ghost use mathlib.Core.Bool.{_||_};
 ghost use Rattle.mathematics.specs.Lists.{holds};
 ghost use Rattle.mathematics.specs.Graph.{isStart, isEnd};
 ghost use Rattle.mathematics.proofs.Parts.{Rising};
-ghost use Rattle.checker.specs.Bytes.{part};
-ghost use Rattle.checker.specs.GraphForm.{vertexCount, arcCount, flags, arcAt, arcCost};
-ghost use Rattle.checker.specs.GraphOf.{graphOf};
-ghost use Rattle.checker.specs.GraphFaults.{nothingRefused};
-ghost use Rattle.checker.specs.Limits.{maxReads, maxCost, maxWeight};
-ghost use Rattle.checker.specs.GraphReads.{Reads};
-ghost use Rattle.checker.specs.ArcTable.{ArcTable};
-ghost use Rattle.checker.specs.Tallies.{Marked, Room, Walked, PathWalked, goesOnTo, onward, pathHeadFault, PathHead, PathRead, NothingTallied, PathsRead};
-ghost use Rattle.checker.specs.AnswerForm.{signed32, inMarkAt, firstPathAt};
-ghost use Rattle.checker.specs.AnswerFaults.{answerHeaderVerdict, markFault, marksVerdict, listBefore};
-
-impl Answer {
-    // Document 01, "The two forms": how long the header, a mark, a vertex's marks, a weight, the head of a path's record and a path at the most are,
-    // and where version and number of paths stand.
-    pub const HEADER: usize = 15;
-
-    pub const MARK: usize = 4;
-
-    pub const MARKS: usize = 8;
-
-    pub const WEIGHT: usize = 4;
-
-    pub const PATH: usize = 5;
-
-    pub const MAX_PATH: usize = 64;
-
-    pub const AT_VERSION: usize = 4;
-
-    pub const AT_PATHS: usize = 5;
-}
+ghost use Rattle.forms.specs.Bytes.{part};
+ghost use Rattle.forms.specs.GraphForm.{vertexCount, arcCount, flags, arcAt, arcCost};
+ghost use Rattle.forms.specs.GraphOf.{graphOf};
+ghost use Rattle.forms.specs.GraphFaults.{nothingRefused};
+ghost use Rattle.forms.specs.Limits.{maxReads, maxCost, maxWeight};
+ghost use Rattle.forms.specs.GraphReads.{Reads};
+ghost use Rattle.forms.specs.ArcTable.{ArcTable};
+ghost use Rattle.checker.specs.Tallies.{Marked, Room, Walked, PathWalked, goesOnTo, pathHeadFault, PathHead, PathRead, NothingTallied, PathsRead};
+ghost use Rattle.certify.specs.Growth.{onward};
+ghost use Rattle.forms.specs.AnswerForm.{inMarkAt, firstPathAt};
+ghost use Rattle.forms.specs.AnswerFaults.{answerHeaderVerdict, markFault, marksVerdict, listBefore};
 
 // What is wrong with the header: 11, 12 or 13.
 pub fn header_verdict(s: &[u8], t: &[u8]) -> Verdict
@@ -119,18 +99,6 @@ pub fn marks_verdict(t: &[u8], n: usize) -> Verdict
         number: 0,
         place: 0,
     }
-}
-
-// A mark in range with the limit added, which makes it a number that is not below 0.
-pub fn mark_plus(t: &[u8], at: usize) -> usize
-    requires { ⌜ (at + 3 < length (now t)) × (markFault (now t) at ≡ 0) ⌝ }
-    ensures { λ r. ⌜ (signed32 (now (t .entry)) at ≡ subℕ r 2000000000) × (r ≤ 4000000000) ⌝ }
-{
-    let x = be32(t, at);
-    if x <= Answer::MARK_LIMIT {
-        return x + Answer::MARK_LIMIT;
-    }
-    x - (4_294_967_296 - Answer::MARK_LIMIT)
 }
 
 // Whether the la bytes at a come before the lb bytes at b, as lists of numbers.
@@ -212,9 +180,9 @@ fn mark_reads(s: &[u8], t: &[u8], b: usize, lb: usize, met: &mut [bool; Graph::M
 }
 
 // What walking along a path gives: whether it is a path of the graph, and the costs of its arcs.
-pub struct Walk {
-    pub ok: bool,
-    pub cost: usize,
+struct Walk {
+    ok: bool,
+    cost: usize,
 }
 
 // The flag byte of vertex v.
@@ -353,9 +321,9 @@ fn path_head_fault(t: &[u8], at: usize, copies: usize) -> usize
 }
 
 // What reading one path's record gives: its fault, and where there is none the costs of the path's arcs.
-pub struct PathRecord {
-    pub fault: usize,
-    pub cost: usize,
+struct PathRecord {
+    fault: usize,
+    cost: usize,
 }
 
 // Reads the path's record at an offset: judges it, adds its weight to the totals and marks the reads that it holds.

@@ -1,32 +1,32 @@
 // The check of an answer against a graph, and the hand-out of a path that passed it.
-use crate::Answer;
-use crate::Graph;
-use crate::Verdict;
 use crate::answers::header_verdict;
 use crate::answers::marks_verdict;
 use crate::answers::read_paths;
-use crate::bytes::be16;
-use crate::bytes::be32;
-use crate::bytes::wide;
-use crate::certify::bound_of;
-use crate::certify::slacks_verdict;
-use crate::certify::unmet_verdict;
-use crate::reader::first_arcs;
 use crate::reader::read_graph;
+use certify::bound_of;
+use certify::slacks_verdict;
+use certify::unmet_verdict;
+use forms::Answer;
+use forms::Graph;
+use forms::Verdict;
+use forms::arcs::first_arcs;
+use forms::bytes::be16;
+use forms::bytes::be32;
+use forms::bytes::wide;
 ghost use mathlib.Core.Path.{_≡_};
 ghost use mathlib.Core.List.{[]};
 ghost use Prim.Native.Nat.{_+_, _≤_};
 ghost use lib.ListN.{length};
 ghost use lib.IntN.{pos};
 ghost use Rattle.mathematics.specs.Price.{whole};
-ghost use Rattle.checker.specs.GraphForm.{vertexCount};
-ghost use Rattle.checker.specs.GraphOf.{graphOf};
-ghost use Rattle.checker.specs.GraphReads.{Reads};
-ghost use Rattle.checker.specs.ArcTable.{ArcTable};
-ghost use Rattle.checker.specs.AnswerForm.{statedPrice, pathCount, marksOf, firstPathAt, pathEnd, coverOf};
-ghost use Rattle.checker.specs.AnswerFaults.{pathsVerdict};
-ghost use Rattle.checker.specs.Tallies.{Tallied};
-ghost use Rattle.checker.specs.Certify.{MarksStand, PathsStand};
+ghost use Rattle.forms.specs.GraphForm.{vertexCount};
+ghost use Rattle.forms.specs.GraphOf.{graphOf};
+ghost use Rattle.forms.specs.GraphReads.{Reads};
+ghost use Rattle.forms.specs.ArcTable.{ArcTable};
+ghost use Rattle.forms.specs.AnswerForm.{statedPrice, pathCount, marksOf, firstPathAt, pathEnd, coverOf};
+ghost use Rattle.forms.specs.AnswerFaults.{pathsVerdict};
+ghost use Rattle.checker.specs.Tallies.{Tallied, PathsStand};
+ghost use Rattle.certify.specs.Certify.{MarksStand};
 ghost use Rattle.checker.specs.Check.{certificateVerdict, answerVerdict, checkVerdict, handOutVerdict, pathAt, handedOut};
 
 // The price that an answer states.
@@ -34,7 +34,7 @@ pub fn stated_price(t: &[u8]) -> usize
     requires { ⌜ 15 ≤ length (now t) ⌝ }
     ensures { λ r. ⌜ r ≡ statedPrice (now (t .entry)) ⌝ }
 {
-    be32(t, 7) * 4_294_967_296 + be32(t, 11)
+    be32(t, Answer::AT_PRICE) * 4_294_967_296 + be32(t, Answer::AT_PRICE + 4)
 }
 
 // Numbers 19 to 22, in that order, of paths that are tallied.

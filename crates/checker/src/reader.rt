@@ -1,22 +1,22 @@
 // The graph reader: every byte string is read to its first fault, in document 01's order, and no byte outside it.
-use crate::Found;
-use crate::Graph;
-use crate::Header;
-use crate::Verdict;
-use crate::bytes::be16;
-use crate::bytes::be32;
-use crate::bytes::wide;
-use crate::bytes::wide16;
+use forms::Found;
+use forms::Graph;
+use forms::Verdict;
+use forms::arcs::find_arc;
+use forms::arcs::first_arcs;
+use forms::bytes::be16;
+use forms::bytes::be32;
+use forms::bytes::wide;
 ghost use mathlib.Core.Path.{_≡_};
 ghost use Prim.Native.Nat.{_+_, _<_, _≤_};
 ghost use lib.ListN.{length};
-ghost use Rattle.checker.specs.GraphFaults.{headerVerdict, vertexFault, arcFault, firstFault, walks, readFault, then, arcsVerdict, readsVerdict, graphVerdict};
-ghost use Rattle.checker.specs.GraphForm.{vertexAt, vertexCount, arcAt, readCount, firstReadAt};
-ghost use Rattle.checker.specs.GraphOf.{arcsOf};
-ghost use Rattle.checker.specs.GraphReads.{HeaderRight, ArcsRight};
-ghost use Rattle.checker.specs.ArcTable.{AsCounted, ArcTable, Opened, tailsBelow, arcNumber, goesOn};
-ghost use Rattle.checker.specs.Bytes.{part};
-ghost use Rattle.checker.specs.Limits.{maxVertices, maxArcs, longestGraph};
+ghost use Rattle.forms.specs.GraphFaults.{headerVerdict, vertexFault, arcFault, firstFault, walks, readFault, then, arcsVerdict, readsVerdict, graphVerdict};
+ghost use Rattle.forms.specs.GraphForm.{vertexAt, vertexCount, arcAt, readCount, firstReadAt};
+ghost use Rattle.forms.specs.GraphOf.{arcsOf};
+ghost use Rattle.forms.specs.GraphReads.{HeaderRight};
+ghost use Rattle.forms.specs.ArcTable.{ArcTable, goesOn};
+ghost use Rattle.forms.specs.Bytes.{part};
+ghost use Rattle.forms.specs.Limits.{maxVertices, maxArcs, longestGraph};
 
 // What is wrong with the header: 1, 2, 3 or 4.
 fn header_verdict(s: &[u8]) -> Verdict
@@ -131,57 +131,6 @@ fn arcs_verdict(s: &[u8], n: usize, count: usize) -> Verdict
     Verdict::new(0, 0)
 }
 
-// How many arcs have a tail below u, counted on from an arc before which all have one: arcs ascend by tail, so the first that has none ends the count.
-fn arcs_below(s: &[u8], n: usize, count: usize, u: usize, from: usize) -> usize
-    requires { ⌜ AsCounted (now s) n count × (from ≤ tailsBelow (arcsOf (now s)) u) ⌝ }
-    ensures { λ r. ⌜ r ≡ tailsBelow (arcsOf (now (s .entry))) u ⌝ }
-{
-    let base = Graph::HEADER + Graph::VERTEX * n;
-    let mut a = from;
-    while a < count {
-        if u <= wide(s[base + Graph::ARC * a]) {
-            return a;
-        }
-        a += 1;
-    }
-    a
-}
-
-// The table of first arcs: at u the number of arcs whose tail is below u. Arcs are passed once, since they ascend by tail.
-pub fn first_arcs(s: &[u8]) -> [u16; Graph::MAX_VERTICES + 1]
-    requires { ⌜ ArcsRight (now s) ⌝ }
-    ensures { λ r. ⌜ ArcTable (now (s .entry)) r ⌝ }
-{
-    let n = wide(s[Graph::AT_VERTICES]);
-    let count = be16(s, Graph::AT_ARCS);
-    let mut first = [0u16; Graph::MAX_VERTICES + 1];
-    let mut below = 0;
-    let mut u = 0;
-    while u <= Graph::MAX_VERTICES {
-        below = arcs_below(s, n, count, u, below);
-        first[u] = below as u16;
-        u += 1;
-    }
-    first
-}
-
-// The number of the arc from u to v: a look at the arcs of tail u alone.
-pub fn find_arc(s: &[u8], first: &[u16; Graph::MAX_VERTICES + 1], u: usize, v: usize) -> Found
-    requires { ⌜ ArcTable (now s) (now first) × (u < maxVertices) ⌝ }
-    ensures { λ r. ⌜ r ≡ arcNumber (arcsOf (now (s .entry))) u v ⌝ }
-{
-    let base = Graph::HEADER + Graph::VERTEX * wide(s[Graph::AT_VERTICES]);
-    let end = wide16(first[u + 1]);
-    let mut a = wide16(first[u]);
-    while a < end {
-        if wide(s[base + Graph::ARC * a + 1]) == v {
-            return Found::At(a);
-        }
-        a += 1;
-    }
-    Found::Missing
-}
-
 // Whether a walk may go on from vertex u to v: v is a vertex, and there is the arc.
 fn goes_on(s: &[u8], first: &[u16; Graph::MAX_VERTICES + 1], n: usize, u: usize, v: usize) -> bool
     requires { ⌜ ArcTable (now s) (now first) × (n ≡ vertexCount (now s)) × (u < n) ⌝ }
@@ -197,7 +146,7 @@ fn goes_on(s: &[u8], first: &[u16; Graph::MAX_VERTICES + 1], n: usize, u: usize,
 }
 
 // Whether count bytes of a form, from an offset on, are vertices of the graph s, each consecutive pair an arc.
-pub fn is_walk(
+fn is_walk(
     s: &[u8],
     first: &[u16; Graph::MAX_VERTICES + 1],
     form: &[u8],
@@ -308,23 +257,4 @@ pub fn read_graph(s: &[u8]) -> Verdict
         return vertices;
     }
     arcs_then_reads(s, n)
-}
-
-// The header and the table of a form that reads, for whoever works on the graph.
-pub fn open_graph(s: &[u8]) -> Graph
-    requires { ⌜ ArcsRight (now s) ⌝ }
-    ensures { λ r. ⌜ Opened (now (s .entry)) r ⌝ }
-{
-    let vertices = wide(s[Graph::AT_VERTICES]);
-    let arcs = be16(s, Graph::AT_ARCS);
-    let reads = wide(s[Graph::AT_READS]);
-    let opening = be32(s, Graph::AT_OPENING);
-    let first = first_arcs(s);
-    let header = Header {
-        vertices,
-        arcs,
-        reads,
-        opening,
-    };
-    Graph { header, first }
 }

@@ -14,12 +14,12 @@ use Rattle.mathematics.specs.Cover.{price}
 use Rattle.mathematics.specs.Bound.{bound}
 use Rattle.mathematics.proofs.Basics.{and-l, and-r, is-true, all-weaken}
 use Rattle.mathematics.proofs.PriceKinds.{whole-ordered}
-use Rattle.checker.specs.Bytes.{part}
-use Rattle.checker.specs.GraphForm.{vertexCount}
-use Rattle.checker.specs.GraphOf.{graphOf}
-use Rattle.checker.specs.AnswerForm.{pathCount, statedPrice, marksOf, firstPathAt, pathWeight, pathVertices, pathEnd, coverOf}
+use Rattle.forms.specs.Bytes.{part}
+use Rattle.forms.specs.GraphForm.{vertexCount}
+use Rattle.forms.specs.GraphOf.{graphOf}
+use Rattle.forms.specs.AnswerForm.{pathCount, statedPrice, marksOf, firstPathAt, pathWeight, pathVertices, pathEnd, coverOf}
 use Rattle.checker.specs.Check.{checkVerdict, handOutVerdict, pathAt, handedOut}
-use Rattle.checker.proofs.RightLaws.{below-all}
+use Rattle.forms.proofs.RightLaws.{below-all}
 use Rattle.checker.proofs.GraphReads.{number-zero-iff-reads}
 use Rattle.checker.proofs.Accepted.{PathRight, PathsRight, number-zero-accepted}
 use Rattle.checker.proofs.Soundness.{accepted-is-lowest}

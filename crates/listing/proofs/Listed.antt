@@ -8,9 +8,9 @@ use lib.IntN.{natAbs}
 use borrow.Author.Tests.{eq-eqb}
 use Rattle.mathematics.specs.Price.{whole}
 use Rattle.mathematics.specs.Cover.{Weighted, IsLowest, price}
-use Rattle.checker.specs.GraphForm.{vertexCount}
-use Rattle.checker.specs.GraphOf.{graphOf}
-use Rattle.checker.specs.AnswerForm.{pathCount, firstPathAt, pathsFrom, coverOf}
+use Rattle.forms.specs.GraphForm.{vertexCount}
+use Rattle.forms.specs.GraphOf.{graphOf}
+use Rattle.forms.specs.AnswerForm.{pathCount, firstPathAt, pathsFrom, coverOf}
 use Rattle.checker.specs.Check.{checkVerdict, pathAt}
 use Rattle.checker.proofs.Soundness.{accepted-is-lowest}
 use Rattle.checker.proofs.HandedOut.{paths-length}

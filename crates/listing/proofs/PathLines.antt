@@ -6,9 +6,9 @@ use native.Mathlib.Omega.{arith}
 use mathlib.Core.Path.{_≡_, sym, ap, _∙_}
 use mathlib.Core.List.{List, _++_}
 use lib.ListN.{length}
-use Rattle.checker.specs.Bytes.{be32}
-use Rattle.checker.specs.GraphForm.{vertexCount}
-use Rattle.checker.specs.AnswerForm.{pathCount, firstPathAt, pathEnd}
+use Rattle.forms.specs.Bytes.{be32}
+use Rattle.forms.specs.GraphForm.{vertexCount}
+use Rattle.forms.specs.AnswerForm.{pathCount, firstPathAt, pathEnd}
 use Rattle.checker.specs.Check.{checkVerdict, pathAt, handedOut}
 use Rattle.listing.specs.Text.{Puts, Room, pathLine}
 use Rattle.listing.specs.Listing.{pathLines}

@@ -6,8 +6,8 @@ use mathlib.Core.List.{List, _++_}
 use lib.ListN.{length, drop}
 use lib.Seq.{length-sets, sets-eq, length-take-le}
 use borrow.Author.Tests.{lt-ltb, le-ltb, le-leb, lt-leb, eq-eqb, ne-eqb}
-use Rattle.checker.specs.declared.Verdict.{Verdict}
-use Rattle.checker.specs.GraphFaults.{graphVerdict}
+use Rattle.forms.specs.declared.Verdict.{Verdict}
+use Rattle.forms.specs.GraphFaults.{graphVerdict}
 use Rattle.checker.specs.Check.{checkVerdict}
 use Rattle.listing.specs.Text.{Puts, refusedWord, refusedLine}
 use Rattle.listing.specs.Listing.{coverListing, listingOf, longestInput, inputsListing, room, fitted, Writes}

@@ -10,10 +10,10 @@ use lib.IntN.{natAbs}
 use Rattle.mathematics.specs.Price.{whole}
 use Rattle.mathematics.specs.Cover.{price}
 use Rattle.mathematics.specs.Bound.{bound}
-use Rattle.checker.specs.GraphForm.{vertexCount}
-use Rattle.checker.specs.GraphOf.{graphOf}
-use Rattle.checker.specs.GraphFaults.{graphVerdict}
-use Rattle.checker.specs.AnswerForm.{pathCount, marksOf, firstPathAt, pathWeight, coverOf}
+use Rattle.forms.specs.GraphForm.{vertexCount}
+use Rattle.forms.specs.GraphOf.{graphOf}
+use Rattle.forms.specs.GraphFaults.{graphVerdict}
+use Rattle.forms.specs.AnswerForm.{pathCount, marksOf, firstPathAt, pathWeight, coverOf}
 use Rattle.checker.specs.Check.{checkVerdict, pathAt, handedOut}
 use Rattle.listing.specs.Text.{coverLine, pathLine, boundLine, refusedLine}
 

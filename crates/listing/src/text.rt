@@ -1,5 +1,5 @@
 // Numbers, words and lines of a listing, stored in a lent buffer from an index on. Each function returns the index behind what it stored.
-use checker::bytes::wide;
+use forms::bytes::wide;
 ghost use Rattle.listing.specs.Text.{Puts, Room, decimal, pairLine, vertexTexts, pathLine, boundLine};
 
 pub fn put_text(out: &mut [u8], at: usize, text: &[u8]) -> usize

@@ -16,12 +16,12 @@ use Rattle.mathematics.proofs.Basics.{all-append, all-left, all-right, all-weak
 use Rattle.mathematics.proofs.Parts.{held-some}
 use Rattle.mathematics.proofs.Loads.{sumOver}
 use Rattle.mathematics.proofs.Links.{Link, reading, passes, opens, pathOf, reading-within, IsWhole}
-use Rattle.checker.specs.Bytes.{tabulate}
-use Rattle.checker.specs.GraphForm.{vertexCount}
-use Rattle.checker.specs.GraphOf.{graphOf}
-use Rattle.checker.specs.GraphReads.{Reads}
-use Rattle.checker.specs.AnswerFaults.{listBefore}
-use Rattle.checker.proofs.GraphFacts.{length-tabulate, graph-well-formed}
+use Rattle.forms.specs.Bytes.{tabulate}
+use Rattle.forms.specs.GraphForm.{vertexCount}
+use Rattle.forms.specs.GraphOf.{graphOf}
+use Rattle.forms.specs.GraphReads.{Reads}
+use Rattle.forms.specs.AnswerFaults.{listBefore}
+use Rattle.forms.proofs.GraphFacts.{length-tabulate, graph-well-formed}
 use Rattle.network.specs.Network.{at, sumTo, share, leaving, entering}
 use Rattle.paths.specs.Slots.{preparedOf, plainSlots, allSlots, openingSlot, closingSlot, readingSlot, linkAt}
 use Rattle.paths.specs.Peel.{collectedAt, collected, Ascend, PathTable, Inserted, fresh, added, GoesRound, worthTo, worthOf, Circles, NextLoaded, Winds, Peeled, loadedIn, opensAt, PeeledOne, Peeling}

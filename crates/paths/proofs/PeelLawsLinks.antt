@@ -16,11 +16,11 @@ use Rattle.mathematics.proofs.Basics.{is-true, is-false, and-l}
 use Rattle.mathematics.proofs.Reach.{linked-first, linked-rest, arc-joins, arc-rises, start-below, path-start, path-linked}
 use Rattle.mathematics.proofs.Prepared.{prepared-linked, prepared-fewer}
 use Rattle.mathematics.proofs.Links.{Link, opening, closing, inside, across, reading, inNode, linkFrom, linkTo, OfGraph, Used, Leads, IsWhole, whole-walk, link-rises}
-use Rattle.checker.specs.Bytes.{tabulate}
-use Rattle.checker.specs.GraphForm.{vertexCount, arcCount, arcAt, arcTail, arcHead}
-use Rattle.checker.specs.GraphOf.{graphOf, vertexOf, arcOf}
-use Rattle.checker.specs.GraphReads.{Reads}
-use Rattle.checker.proofs.GraphFacts.{length-tabulate, graph-well-formed, graph-within}
+use Rattle.forms.specs.Bytes.{tabulate}
+use Rattle.forms.specs.GraphForm.{vertexCount, arcCount, arcAt, arcTail, arcHead}
+use Rattle.forms.specs.GraphOf.{graphOf, vertexOf, arcOf}
+use Rattle.forms.specs.GraphReads.{Reads}
+use Rattle.forms.proofs.GraphFacts.{length-tabulate, graph-well-formed, graph-within}
 use Rattle.reads.proofs.TableLaws.{at-all}
 use Rattle.network.specs.Network.{at}
 use Rattle.paths.specs.Slots.{preparedOf, plainSlots, allSlots, openingSlot, closingSlot, readingSlot, linkAt, inUse, edgeFrom, edgeTo}

@@ -9,9 +9,9 @@ use Rattle.mathematics.specs.Lists.{All}
 use Rattle.mathematics.specs.Cover.{Weighted}
 use Rattle.mathematics.proofs.Basics.{all-weaken}
 use Rattle.mathematics.proofs.Links.{opens, pathOf, IsWhole}
-use Rattle.checker.specs.GraphForm.{vertexCount}
-use Rattle.checker.specs.GraphOf.{graphOf}
-use Rattle.checker.proofs.GraphFacts.{graph-well-formed}
+use Rattle.forms.specs.GraphForm.{vertexCount}
+use Rattle.forms.specs.GraphOf.{graphOf}
+use Rattle.forms.proofs.GraphFacts.{graph-well-formed}
 use Rattle.network.specs.Network.{at}
 use Rattle.paths.specs.Slots.{allSlots, openingSlot, closingSlot, linkAt}
 use Rattle.paths.specs.Peel.{Collected, GoesRound, worthOf, Circles, Walked, TakenOff, Ready, opensAt, PeeledOne}

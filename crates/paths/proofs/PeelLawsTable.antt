@@ -10,10 +10,10 @@ use lib.Dec.{T, ltb, eqb, ltb→lt, lt→ltb, eqb-refl}
 use lib.ListN.{length, getD, set, take, drop, length-set, drop-of-length-le}
 use lib.Seq.{getD-set-same, getD-set-other, getD-take, drop-cons, length-take-le}
 use Rattle.mathematics.proofs.Basics.{is-true, is-false, or-l, or-r, and-in}
-use Rattle.checker.specs.AnswerFaults.{listBefore}
+use Rattle.forms.specs.AnswerFaults.{listBefore}
 use Rattle.network.specs.Network.{at}
 use Rattle.mathematics.specs.Cover.{Weighted}
-use Rattle.checker.specs.Bytes.{tabulate}
+use Rattle.forms.specs.Bytes.{tabulate}
 use Rattle.paths.specs.Peel.{pathAt, collectedAt, collected, orderOf, RowFits, PathTable, Spotted, Shifted, Belongs, Inserted, fresh, added, Collected}
 use Rattle.network.proofs.NetworkLaws.{same-or-not, below-or-not}
 

@@ -13,12 +13,12 @@ use Rattle.mathematics.specs.Cover.{Item, Weighted, total, totalWeight, paths}
 use Rattle.mathematics.specs.Range.{OneOf}
 use Rattle.mathematics.proofs.Loads.{sumOver}
 use Rattle.mathematics.proofs.Links.{AtEnds, passes, opens, pathOf}
-use Rattle.checker.specs.Bytes.{tabulate}
-use Rattle.checker.specs.GraphForm.{vertexCount}
-use Rattle.checker.specs.GraphOf.{graphOf}
-use Rattle.checker.specs.GraphReads.{Reads}
+use Rattle.forms.specs.Bytes.{tabulate}
+use Rattle.forms.specs.GraphForm.{vertexCount}
+use Rattle.forms.specs.GraphOf.{graphOf}
+use Rattle.forms.specs.GraphReads.{Reads}
 use Rattle.reads.specs.ReadTable.{Leaves}
-use Rattle.checker.specs.AnswerFaults.{listBefore}
+use Rattle.forms.specs.AnswerFaults.{listBefore}
 use Rattle.paths.specs.declared.collect.Spot.{Spot}
 use Rattle.network.specs.Network.{at, sumTo, leaving, entering, Chained}
 use Rattle.paths.specs.Slots.{preparedOf, plainSlots, allSlots, openingSlot, closingSlot, readingSlot, linkAt, inUse, edgeFrom, edgeTo}

@@ -15,8 +15,8 @@ use Rattle.mathematics.specs.Prepare.{prepare}
 use Rattle.mathematics.specs.Bound.{rest}
 use Rattle.mathematics.specs.Reach.{useful}
 use Rattle.mathematics.proofs.Links.{Link, opening, closing, inside, across, reading, linkFrom, linkTo}
-use Rattle.checker.specs.GraphForm.{vertexCount, arcCount, openingPrice, arcAt, arcTail, arcHead, arcCost, arcDemand, vertexDemand}
-use Rattle.checker.specs.GraphOf.{graphOf}
+use Rattle.forms.specs.GraphForm.{vertexCount, arcCount, openingPrice, arcAt, arcTail, arcHead, arcCost, arcDemand, vertexDemand}
+use Rattle.forms.specs.GraphOf.{graphOf}
 
 -- the prepared reads of the graph form s
 abbrev pub preparedOf : List ℕ → List (List ℕ)

@@ -10,7 +10,7 @@ ghost use lib.ListN.{length, take, getD};
 ghost use Rattle.mathematics.specs.Lists.{All};
 ghost use Rattle.mathematics.proofs.Links.{linkVertices, pathOf};
 ghost use Rattle.network.specs.Network.{at, Chained};
-ghost use Rattle.checker.specs.GraphForm.{vertexCount};
+ghost use Rattle.forms.specs.GraphForm.{vertexCount};
 ghost use Rattle.paths.specs.Slots.{preparedOf, allSlots, readingSlot, linkAt};
 ghost use Rattle.paths.specs.Peel.{collected, RowFits, PathTable, ReadsHeld, Written, GoesRound, worthOf, Circles, NextLoaded, Walked, TakenOff, Ready, opensAt, PeeledOne, Peeled};
 

@@ -6,7 +6,7 @@ use mathlib.Core.Path.{sym}
 use lib.ListN.{length-replicate}
 use lib.Seq.{length-take-le}
 use borrow.Author.Needs.{needs}
-use Rattle.builder.specs.Build.{roomAsked}
+use Rattle.forms.specs.BuildFaults.{roomAsked}
 use Rattle.assemble.proofs.Laws.{lists-too-long, lists-refused, lists-built}
 use Rattle.assemble.proofs.assemble.Statement.{statement}
 use Rattle.assemble.proofs.assemble.Tie as tie

@@ -4,7 +4,7 @@ use native.Mathlib.Omega.{arith}
 use mathlib.Core.Path.{_≡_, sym, ap, _∙_}
 use denote.Ref.{now}
 use borrow.Author.Needs.{needs}
-use Rattle.checker.specs.declared.Verdict.{Verdict}
+use Rattle.forms.specs.declared.Verdict.{Verdict}
 use Rattle.checker.specs.Check.{checkVerdict}
 use Rattle.listing.specs.Text.{refusedWord}
 use Rattle.listing.proofs.Lengths.{pair-line-few}

@@ -5,7 +5,7 @@ use native.Mathlib.Omega.{arith}
 use mathlib.Core.List.{List, _++_}
 use denote.Ref.{now}
 use borrow.Author.Needs.{needs}
-use Rattle.checker.specs.AnswerForm.{pathCount}
+use Rattle.forms.specs.AnswerForm.{pathCount}
 use Rattle.listing.specs.Text.{coverWord, pairLine, boundLine}
 use Rattle.listing.specs.Listing.{pathLines, coverListing}
 use Rattle.listing.proofs.Storing.{Still, still-next, still-room, still-fits, still-last}

@@ -1,7 +1,7 @@
 -- `builder::build::keep_useful` meets its contract. The loop's invariant: the vertices before v are marked. Assumes nothing.
 use Rattle.builder.proofs.SetupLaws.{Filled, fill-none, fill-more}
-use Rattle.checker.specs.GraphOf.{graphOf}
-use Rattle.checker.specs.GraphForm.{vertexCount}
+use Rattle.forms.specs.GraphOf.{graphOf}
+use Rattle.forms.specs.GraphForm.{vertexCount}
 use Rattle.mathematics.specs.Reach.{useful}
 use mathlib.Core.Bool.{false, _&&_}
 use mathlib.Core.Path.{_≡_, ap₂, _∙_}

@@ -2,7 +2,7 @@
 use Rattle.builder.proofs.FinishLaws.{held-is}
 use Rattle.builder.proofs.SetupLaws.{Filled, fill-none, fill-more}
 use Rattle.builder.specs.Finish.{heldMark}
-use Rattle.checker.specs.GraphForm.{vertexCount}
+use Rattle.forms.specs.GraphForm.{vertexCount}
 use Rattle.mathematics.proofs.Links.{inNode, outNode}
 use mathlib.Core.Path.{_≡_, refl}
 use Prim.Native.Nat.{_≤_, _<_, _-_}

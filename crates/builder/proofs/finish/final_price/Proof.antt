@@ -3,7 +3,7 @@ use Rattle.builder.proofs.FinishLaws.{price-done, cost-at}
 use Rattle.builder.proofs.FinishLaws.{copies-asked, first-price, first-fits, total-fits, next-price, next-fits}
 use Rattle.builder.specs.Finish.{copiesOf, arcWorth}
 use Rattle.network.specs.Network.{sumTo}
-use Rattle.checker.specs.GraphForm.{vertexCount, arcCount, openingPrice}
+use Rattle.forms.specs.GraphForm.{vertexCount, arcCount, openingPrice}
 use mathlib.Core.Path.{_≡_, refl}
 use Prim.Native.Nat.{_≤_, _-_, _+_, _*_}
 use native.Mathlib.Omega.{arith}

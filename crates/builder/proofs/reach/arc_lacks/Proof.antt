@@ -8,8 +8,8 @@ use Rattle.builder.proofs.reach.arc_lacks.Tie as tie
 use Rattle.builder.proofs.reach.arc_lacks.Reads as reads
 use Rattle.builder.proofs.reach.arc_lacks.Lts as lts
 use Rattle.builder.proofs.reach.lies.Reads as lies-reads
-use Rattle.checker.proofs.bytes.be32.Reads as be32-reads
-use Rattle.checker.proofs.bytes.wide.Reads as wide-reads
+use Rattle.forms.proofs.bytes.be32.Reads as be32-reads
+use Rattle.forms.proofs.bytes.wide.Reads as wide-reads
 
 add-be32 : tie.Need-add-be32
 add-be32 c = search needs

@@ -3,19 +3,19 @@ use borrow.Author.Needs.{needs}
 use Prim.Native.Nat.{ℕ, _+_, _≤_, _-_}
 use native.Mathlib.Omega.{arith}
 use mathlib.Core.Path.{_≡_, refl, sym, ap, subst, _∙_}
-use Rattle.checker.specs.GraphForm.{vertexAt, arcAt}
-use Rattle.checker.specs.GraphReads.{ArcRight}
+use Rattle.forms.specs.GraphForm.{vertexAt, arcAt}
+use Rattle.forms.specs.GraphReads.{ArcRight}
 use Rattle.builder.proofs.SetupLaws.{its-place}
-use Rattle.checker.specs.GraphOf.{graphOf}
-use Rattle.checker.specs.GraphFaults.{firstFault}
-use Rattle.checker.proofs.Scan.{scan-begins, scan-turns, scan-stops, scan-ends}
+use Rattle.forms.specs.GraphOf.{graphOf}
+use Rattle.forms.specs.GraphFaults.{firstFault}
+use Rattle.forms.proofs.Scan.{scan-begins, scan-turns, scan-stops, scan-ends}
 use Rattle.builder.specs.Setup.{Marked, Counted, vertexAsk, recordAsk, lacks}
 use Rattle.builder.proofs.reach.arcs_lie.Statement.{statement}
 use Rattle.builder.proofs.reach.arcs_lie.Tie as tie
 use Rattle.builder.proofs.reach.arcs_lie.Reads as reads
 use Rattle.builder.proofs.reach.arcs_lie.Lts as lts
 use Rattle.builder.proofs.reach.arc_lacks.Reads as arc-lacks-reads
-use Rattle.checker.proofs.Verdict.new.Reads as new-reads
+use Rattle.forms.proofs.Verdict.new.Reads as new-reads
 
 abbrev Inv-loop : tie.InvT-loop
 Inv-loop s n m reached reaching base a₀ a = (a ≤ m) × (base ≡ vertexAt s n) × (firstFault (λ a. lacks (graphOf s) (recordAsk s (arcAt s a))) (λ a. n + a) m 0 ≡ firstFault (λ a. lacks (graphOf s) (recordAsk s (arcAt s a))) (λ a. n + a) (m - a) a)

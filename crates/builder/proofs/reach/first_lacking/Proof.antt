@@ -1,7 +1,7 @@
 -- `builder::reach::first_lacking` meets its contract: vertices, then arcs, then reads.
 use borrow.Author.Needs.{needs}
 use mathlib.Core.Path.{_≡_, refl, sym, ap, subst, _∙_}
-use Rattle.checker.proofs.ThenLaws.{then-refused, then-passed}
+use Rattle.forms.proofs.ThenLaws.{then-refused, then-passed}
 use Rattle.builder.specs.Setup.{Counted}
 use Rattle.builder.proofs.SetupLawsLacking.{lie-then}
 use Rattle.builder.proofs.reach.first_lacking.Statement.{statement}
@@ -11,8 +11,8 @@ use Rattle.builder.proofs.reach.first_lacking.Lts as lts
 use Rattle.builder.proofs.reach.arcs_lie.Reads as arcs-lie-reads
 use Rattle.builder.proofs.reach.reads_lie.Reads as reads-lie-reads
 use Rattle.builder.proofs.reach.vertices_lie.Reads as vertices-lie-reads
-use Rattle.checker.proofs.bytes.be16.Reads as be16-reads
-use Rattle.checker.proofs.bytes.wide.Reads as wide-reads
+use Rattle.forms.proofs.bytes.be16.Reads as be16-reads
+use Rattle.forms.proofs.bytes.wide.Reads as wide-reads
 
 shared-slice-read-wide : tie.Need-shared-slice-read-wide
 shared-slice-read-wide c = search needs

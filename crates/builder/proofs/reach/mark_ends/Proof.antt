@@ -6,7 +6,7 @@ use mathlib.Core.Path.{sym, ap, _∙_}
 use mathlib.Core.Bool.{false}
 use lib.Dec.{eqb}
 use Rattle.mathematics.specs.Graph.{isEnd}
-use Rattle.checker.specs.GraphOf.{graphOf}
+use Rattle.forms.specs.GraphOf.{graphOf}
 use Rattle.builder.proofs.SetupLaws.{Filled, fill-none, fill-more, end-is}
 use Rattle.builder.proofs.reach.mark_ends.Statement.{statement}
 use Rattle.builder.proofs.reach.mark_ends.Tie as tie

@@ -6,7 +6,7 @@ use mathlib.Core.Path.{sym, ap, _∙_}
 use mathlib.Core.Bool.{false}
 use lib.Dec.{eqb}
 use Rattle.mathematics.specs.Graph.{isStart}
-use Rattle.checker.specs.GraphOf.{graphOf}
+use Rattle.forms.specs.GraphOf.{graphOf}
 use Rattle.builder.proofs.SetupLaws.{Filled, fill-none, fill-more, start-is}
 use Rattle.builder.proofs.reach.mark_starts.Statement.{statement}
 use Rattle.builder.proofs.reach.mark_starts.Tie as tie

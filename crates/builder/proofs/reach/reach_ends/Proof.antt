@@ -3,7 +3,7 @@ use borrow.Author.Needs.{needs}
 use Prim.Native.Nat.{_+_, _*_, _≤_, _-_}
 use native.Mathlib.Omega.{arith}
 use mathlib.Core.Path.{_≡_, refl}
-use Rattle.checker.specs.GraphForm.{arcCount}
+use Rattle.forms.specs.GraphForm.{arcCount}
 use Rattle.builder.specs.Setup.{Counted}
 use Rattle.builder.proofs.SetupLaws.{record-whole, tail-read, head-read, tail-low, head-low}
 use Rattle.builder.proofs.SetupLawsReach.{Back, back-begins, back-over, back-on, back-ends}
@@ -12,8 +12,8 @@ use Rattle.builder.proofs.reach.reach_ends.Tie as tie
 use Rattle.builder.proofs.reach.reach_ends.Reads as reads
 use Rattle.builder.proofs.reach.reach_ends.Lts as lts
 use Rattle.builder.proofs.reach.mark_ends.Reads as mark-ends-reads
-use Rattle.checker.proofs.bytes.be16.Reads as be16-reads
-use Rattle.checker.proofs.bytes.wide.Reads as wide-reads
+use Rattle.forms.proofs.bytes.be16.Reads as be16-reads
+use Rattle.forms.proofs.bytes.wide.Reads as wide-reads
 
 abbrev Inv-loop : tie.InvT-loop
 Inv-loop s reaching₀ n base a₀ reaching a = Counted s n (arcCount s) × (base ≡ 13 + 5 * n) × (a ≤ arcCount s) × Back s a reaching

@@ -11,8 +11,8 @@ use Rattle.builder.proofs.reach.reach_from_starts.Tie as tie
 use Rattle.builder.proofs.reach.reach_from_starts.Reads as reads
 use Rattle.builder.proofs.reach.reach_from_starts.Lts as lts
 use Rattle.builder.proofs.reach.mark_starts.Reads as mark-starts-reads
-use Rattle.checker.proofs.bytes.be16.Reads as be16-reads
-use Rattle.checker.proofs.bytes.wide.Reads as wide-reads
+use Rattle.forms.proofs.bytes.be16.Reads as be16-reads
+use Rattle.forms.proofs.bytes.wide.Reads as wide-reads
 
 abbrev Inv-loop : tie.InvT-loop
 Inv-loop s reached₀ n m base a₀ reached a = Counted s n m × (base ≡ 13 + 5 * n) × (a ≤ m) × Ahead s a reached

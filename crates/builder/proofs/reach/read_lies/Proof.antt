@@ -7,7 +7,7 @@ use Rattle.builder.proofs.reach.read_lies.Tie as tie
 use Rattle.builder.proofs.reach.read_lies.Reads as reads
 use Rattle.builder.proofs.reach.read_lies.Lts as lts
 use Rattle.builder.proofs.reach.lies.Reads as lies-reads
-use Rattle.checker.proofs.bytes.wide.Reads as wide-reads
+use Rattle.forms.proofs.bytes.wide.Reads as wide-reads
 
 shared-slice-read-wide : tie.Need-shared-slice-read-wide
 shared-slice-read-wide c = omega (arith, c .before .before .pre .1 .begins)

@@ -11,8 +11,8 @@ use Rattle.builder.proofs.reach.reads_lie.Tie as tie
 use Rattle.builder.proofs.reach.reads_lie.Reads as reads
 use Rattle.builder.proofs.reach.reads_lie.Lts as lts
 use Rattle.builder.proofs.reach.read_lies.Reads as read-lies-reads
-use Rattle.checker.proofs.Verdict.new.Reads as new-reads
-use Rattle.checker.proofs.bytes.wide.Reads as wide-reads
+use Rattle.forms.proofs.Verdict.new.Reads as new-reads
+use Rattle.forms.proofs.bytes.wide.Reads as wide-reads
 
 abbrev Inv-loop : tie.InvT-loop
 Inv-loop s n m reached reaching count at₀ k₀ at k = ReadsLeft s n m count k at

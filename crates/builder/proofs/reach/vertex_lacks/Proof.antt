@@ -8,7 +8,7 @@ use Rattle.builder.proofs.reach.vertex_lacks.Tie as tie
 use Rattle.builder.proofs.reach.vertex_lacks.Reads as reads
 use Rattle.builder.proofs.reach.vertex_lacks.Lts as lts
 use Rattle.builder.proofs.reach.lies.Reads as lies-reads
-use Rattle.checker.proofs.bytes.be32.Reads as be32-reads
+use Rattle.forms.proofs.bytes.be32.Reads as be32-reads
 
 mul-be32 : tie.Need-mul-be32
 mul-be32 c = search needs

@@ -3,17 +3,17 @@ use borrow.Author.Needs.{needs}
 use Prim.Native.Nat.{ℕ, _+_, _≤_, _-_}
 use native.Mathlib.Omega.{arith}
 use mathlib.Core.Path.{_≡_, refl, sym, ap, subst, _∙_}
-use Rattle.checker.specs.GraphForm.{vertexCount, arcAt}
-use Rattle.checker.specs.GraphOf.{graphOf}
-use Rattle.checker.specs.GraphFaults.{firstFault}
-use Rattle.checker.proofs.Scan.{scan-begins, scan-turns, scan-stops, scan-ends}
+use Rattle.forms.specs.GraphForm.{vertexCount, arcAt}
+use Rattle.forms.specs.GraphOf.{graphOf}
+use Rattle.forms.specs.GraphFaults.{firstFault}
+use Rattle.forms.proofs.Scan.{scan-begins, scan-turns, scan-stops, scan-ends}
 use Rattle.builder.specs.Setup.{Marked, Counted, vertexAsk, recordAsk, lacks}
 use Rattle.builder.proofs.reach.vertices_lie.Statement.{statement}
 use Rattle.builder.proofs.reach.vertices_lie.Tie as tie
 use Rattle.builder.proofs.reach.vertices_lie.Reads as reads
 use Rattle.builder.proofs.reach.vertices_lie.Lts as lts
 use Rattle.builder.proofs.reach.vertex_lacks.Reads as vertex-lacks-reads
-use Rattle.checker.proofs.Verdict.new.Reads as new-reads
+use Rattle.forms.proofs.Verdict.new.Reads as new-reads
 
 abbrev Inv-loop : tie.InvT-loop
 Inv-loop s n reached reaching v₀ v = (v ≤ n) × (firstFault (λ v. lacks (graphOf s) (vertexAsk s v)) (λ v. v) n 0 ≡ firstFault (λ v. lacks (graphOf s) (vertexAsk s v)) (λ v. v) (n - v) v)

@@ -4,7 +4,7 @@ use Rattle.paths.specs.Slots.{allSlots}
 use Prim.Native.Nat.{ℕ, _+_, _*_, _-_, _≤_, _<_}
 use native.Mathlib.Omega.{arith}
 use mathlib.Core.Path.{_≡_, refl, sym, ap, ap₂, subst, _∙_}
-use Rattle.checker.specs.GraphForm.{vertexCount, arcCount, openingPrice}
+use Rattle.forms.specs.GraphForm.{vertexCount, arcCount, openingPrice}
 use Rattle.builder.specs.Setup.{Counted}
 use Rattle.builder.specs.Lay.{EdgesLaid, LoadsLaid, LiveLaid, Tallied, Netted}
 use borrow.Author.Needs.{needs}

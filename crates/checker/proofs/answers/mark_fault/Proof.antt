@@ -1,5 +1,5 @@
 -- `checker::answers::mark_fault` gives the fault of specs/AnswerFaults.
-use Rattle.checker.proofs.AnswerLaws.{mark-low, mark-high, mark-between}
+use Rattle.forms.proofs.MarkLaws.{mark-low, mark-high, mark-between}
 use borrow.Author.Needs.{needs}
 use Rattle.checker.proofs.answers.mark_fault.Statement.{statement}
 use Rattle.checker.proofs.answers.mark_fault.Tie as tie

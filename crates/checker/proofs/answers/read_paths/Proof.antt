@@ -1,6 +1,6 @@
 -- `checker::answer::read_paths` reads one record after another: what is tallied and what the records left add is what all give.
 use Rattle.checker.proofs.AnswerPaths.{PathsLeft, paths-begin, paths-room, paths-stop, paths-remain, paths-end, paths-turn, price-low, paths-told}
-use Rattle.checker.specs.GraphForm.{openingPrice}
+use Rattle.forms.specs.GraphForm.{openingPrice}
 use mathlib.Core.Path.{_≡_, sym, _∙_}
 use native.Mathlib.Omega.{arith}
 use borrow.Author.Needs.{needs}

@@ -1,10 +1,11 @@
 -- `checker::answers::walk_on` walks along a path: what is left of it decides, and adds what is lacking.
 use mathlib.Core.Path.{sym, _∙_}
 use native.Mathlib.Omega.{arith}
-use Rattle.checker.specs.GraphForm.{vertexCount}
+use Rattle.forms.specs.GraphForm.{vertexCount}
 use mathlib.Core.Path.{_≡_}
 use Prim.Native.Nat.{_-_}
-use Rattle.checker.proofs.AnswerWalk.{WalkLeft, found-arc, walk-fails, walk-begin, walk-outside, walk-nowhere, walk-turn, walk-end, arc-room, vertex-room}
+use Rattle.checker.proofs.AnswerWalk.{WalkLeft, walk-fails, walk-begin, walk-outside, walk-nowhere, walk-turn, walk-end, arc-room, vertex-room}
+use Rattle.certify.proofs.GrowthLaws.{found-arc}
 use borrow.Author.Needs.{needs}
 use Rattle.checker.proofs.answers.walk_on.Statement.{statement}
 use Rattle.checker.proofs.answers.walk_on.Tie as tie

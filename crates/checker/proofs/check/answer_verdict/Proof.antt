@@ -2,16 +2,15 @@
 use mathlib.Core.Path.{sym, ap, _∙_}
 use native.Mathlib.Omega.{arith}
 use Prim.Native.Nat.{_*_}
-use Rattle.checker.specs.declared.Verdict.{Verdict}
-use Rattle.checker.specs.AnswerForm.{inMarkAt}
-use Rattle.checker.specs.AnswerFaults.{marksVerdict}
-use Rattle.checker.specs.GraphFaults.{nothingRefused}
+use Rattle.forms.specs.declared.Verdict.{Verdict}
+use Rattle.forms.specs.AnswerForm.{inMarkAt}
+use Rattle.forms.specs.AnswerFaults.{marksVerdict}
+use Rattle.forms.specs.GraphFaults.{nothingRefused}
 use Rattle.checker.specs.Check.{answerVerdict}
 use Rattle.checker.proofs.AnswerLaws.{header-then, marks-then}
-use Rattle.checker.proofs.ThenLaws.{then-refused, then-passed}
+use Rattle.forms.proofs.ThenLaws.{then-refused, then-passed}
 use Rattle.checker.proofs.Accepted.{header-read}
 use Rattle.checker.proofs.CertifyLawsCheck.{marks-stand}
-use borrow.Author.Needs.{needs}
 use borrow.Author.Needs.{needs}
 use Rattle.checker.proofs.check.answer_verdict.Statement.{statement}
 use Rattle.checker.proofs.check.answer_verdict.Tie as tie

@@ -1,8 +1,7 @@
 -- `checker::check::certificate_verdict` gives the first of 19, 20, 21 and 22 that holds.
 use mathlib.Core.Path.{sym, ap, _∙_}
-use Rattle.checker.specs.declared.Verdict.{Verdict}
+use Rattle.forms.specs.declared.Verdict.{Verdict}
 use Rattle.checker.proofs.CertifyLawsCheck.{some-unmet, price-differs, slack-below, bound-differs, all-certified, none-below}
-use borrow.Author.Needs.{needs}
 use borrow.Author.Needs.{needs}
 use Rattle.checker.proofs.check.certificate_verdict.Statement.{statement}
 use Rattle.checker.proofs.check.certificate_verdict.Tie as tie

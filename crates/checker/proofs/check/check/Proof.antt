@@ -1,11 +1,10 @@
 -- `checker::check::check` reads the graph, and where nothing is refused of it, judges the answer beside it.
 use mathlib.Core.Path.{sym, ap, _∙_}
-use Rattle.checker.specs.declared.Verdict.{Verdict}
-use Rattle.checker.specs.GraphFaults.{then}
+use Rattle.forms.specs.declared.Verdict.{Verdict}
+use Rattle.forms.specs.GraphFaults.{then}
 use Rattle.checker.specs.Check.{checkVerdict}
 use Rattle.checker.proofs.GraphReads.{number-zero-iff-reads}
-use Rattle.checker.proofs.ThenLaws.{then-refused, then-passed}
-use borrow.Author.Needs.{needs}
+use Rattle.forms.proofs.ThenLaws.{then-refused, then-passed}
 use borrow.Author.Needs.{needs}
 use Rattle.checker.proofs.check.check.Statement.{statement}
 use Rattle.checker.proofs.check.check.Tie as tie

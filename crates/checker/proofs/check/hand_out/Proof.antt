@@ -2,11 +2,10 @@
 use mathlib.Core.Path.{sym, ap, subst, _∙_}
 use native.Mathlib.Omega.{arith}
 use Prim.Native.Nat.{_+_, _*_}
-use Rattle.checker.specs.declared.Verdict.{Verdict}
-use Rattle.checker.specs.Certify.{PathsStand}
+use Rattle.forms.specs.declared.Verdict.{Verdict}
+use Rattle.checker.specs.Tallies.{PathsStand}
 use Rattle.checker.proofs.GraphReads.{number-zero-iff-reads}
 use Rattle.checker.proofs.CertifyLawsHandOut.{has-path, stands-to, nothing-handed, path-handed}
-use borrow.Author.Needs.{needs}
 use borrow.Author.Needs.{needs}
 use Rattle.checker.proofs.check.hand_out.Statement.{statement}
 use Rattle.checker.proofs.check.hand_out.Tie as tie

@@ -1,13 +1,12 @@
 -- `checker::check::hand_out_verdict` gives the check's refusal, and 23 after it.
 use mathlib.Core.Path.{sym, ap, _∙_}
 use native.Mathlib.Omega.{arith}
-use Rattle.checker.specs.declared.Verdict.{Verdict}
-use Rattle.checker.specs.GraphFaults.{then}
+use Rattle.forms.specs.declared.Verdict.{Verdict}
+use Rattle.forms.specs.GraphFaults.{then}
 use Rattle.checker.specs.Check.{handOutVerdict}
-use Rattle.checker.proofs.ThenLaws.{then-refused, then-passed}
+use Rattle.forms.proofs.ThenLaws.{then-refused, then-passed}
 use Rattle.checker.proofs.Accepted.{number-zero-accepted}
 use Rattle.checker.proofs.CertifyLawsHandOut.{no-such-path, such-path}
-use borrow.Author.Needs.{needs}
 use borrow.Author.Needs.{needs}
 use Rattle.checker.proofs.check.hand_out_verdict.Statement.{statement}
 use Rattle.checker.proofs.check.hand_out_verdict.Tie as tie

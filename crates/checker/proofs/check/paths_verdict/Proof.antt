@@ -1,9 +1,8 @@
 -- `checker::check::paths_verdict` reads the paths, and where nothing is refused of them tests the certificate.
 use mathlib.Core.Path.{sym, _∙_}
 use Rattle.checker.proofs.AnswerLaws.{paths-then}
-use Rattle.checker.proofs.ThenLaws.{then-refused, then-passed}
-use Rattle.checker.proofs.CertifyLawsCount.{nothing-tallied}
-use borrow.Author.Needs.{needs}
+use Rattle.forms.proofs.ThenLaws.{then-refused, then-passed}
+use Rattle.checker.proofs.AnswerPaths.{nothing-tallied}
 use borrow.Author.Needs.{needs}
 use Rattle.checker.proofs.check.paths_verdict.Statement.{statement}
 use Rattle.checker.proofs.check.paths_verdict.Tie as tie

@@ -1,8 +1,7 @@
 -- `checker::check::stated_price` puts the two halves of the price together.
-use Rattle.checker.specs.Bytes.{be64}
+use Rattle.forms.specs.Bytes.{be64}
 use mathlib.Core.Path.{ap₂}
 use Prim.Native.Nat.{_+_, _*_}
-use borrow.Author.Needs.{needs}
 use borrow.Author.Needs.{needs}
 use Rattle.checker.proofs.check.stated_price.Statement.{statement}
 use Rattle.checker.proofs.check.stated_price.Tie as tie
@@ -12,6 +11,9 @@ be32-requires c κs = search needs
 
 mul-result : tie.Need-mul-result
 mul-result c = search needs
+
+add-be32 : tie.Need-add-be32
+add-be32 c = search needs
 
 be32-requires-2 : tie.Need-be32-requires-2
 be32-requires-2 c κs = search needs
@@ -25,4 +27,4 @@ returns c = ap₂ (λ x y. x * 4294967296 + y) (c .before .be32 .ensures .0) (c 
 
 pub stated-price-spec : {M : Type 1} → statement M
 stated-price-spec =
-    tie.close (tie.spec be32-requires mul-result be32-requires-2 add-result returns)
+    tie.close (tie.spec be32-requires mul-result add-be32 be32-requires-2 add-result returns)

@@ -1,8 +1,8 @@
 -- `checker::reader::arcs_then_reads` meets its contract: where no arc is refused the arcs are right, and the table is made for the reads.
 use mathlib.Core.Path.{sym, ap, _∙_}
-use Rattle.checker.specs.declared.Verdict.{Verdict}
-use Rattle.checker.proofs.RightLaws.{arcs-hold}
-use Rattle.checker.proofs.ThenLaws.{then-refused, then-passed, counted, reads-counted}
+use Rattle.forms.specs.declared.Verdict.{Verdict}
+use Rattle.forms.proofs.RightLaws.{arcs-hold}
+use Rattle.forms.proofs.ThenLaws.{then-refused, then-passed, counted, reads-counted}
 use borrow.Author.Needs.{needs}
 use Rattle.checker.proofs.reader.arcs_then_reads.Statement.{statement}
 use Rattle.checker.proofs.reader.arcs_then_reads.Tie as tie

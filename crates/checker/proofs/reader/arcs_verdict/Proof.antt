@@ -2,9 +2,9 @@
 use borrow.Author.Needs.{needs}
 use Prim.Native.Nat.{_-_, _≤_}
 use mathlib.Core.Path.{_≡_, _∙_, ap}
-use Rattle.checker.proofs.Scan.{scan-begins, scan-turns, scan-stops, scan-ends}
-use Rattle.checker.specs.GraphForm.{arcAt}
-use Rattle.checker.specs.GraphFaults.{firstFault, arcFault}
+use Rattle.forms.proofs.Scan.{scan-begins, scan-turns, scan-stops, scan-ends}
+use Rattle.forms.specs.GraphForm.{arcAt}
+use Rattle.forms.specs.GraphFaults.{firstFault, arcFault}
 use Rattle.checker.proofs.reader.arcs_verdict.Statement.{statement}
 use Rattle.checker.proofs.reader.arcs_verdict.Tie as tie
 

@@ -1,6 +1,6 @@
 -- `checker::reader::goes_on` meets its contract: an arc is found exactly where there is one.
 use mathlib.Core.Path.{sym, _∙_}
-use Rattle.checker.proofs.WalkLaws.{goes-outside, goes-arc, goes-nowhere}
+use Rattle.forms.proofs.WalkLaws.{goes-outside, goes-arc, goes-nowhere}
 use borrow.Author.Needs.{needs}
 use Rattle.checker.proofs.reader.goes_on.Statement.{statement}
 use Rattle.checker.proofs.reader.goes_on.Tie as tie

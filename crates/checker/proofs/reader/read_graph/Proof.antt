@@ -1,10 +1,10 @@
 -- `checker::reader::read_graph` meets its contract: header, vertices, arcs and reads, the first refusal deciding.
 use native.Mathlib.Omega.{arith}
 use mathlib.Core.Path.{sym, ap, _∙_}
-use Rattle.checker.specs.declared.Verdict.{Verdict}
-use Rattle.checker.specs.GraphFaults.{graphVerdict}
-use Rattle.checker.proofs.RightLaws.{header-holds}
-use Rattle.checker.proofs.ThenLaws.{then-refused, then-passed, counted}
+use Rattle.forms.specs.declared.Verdict.{Verdict}
+use Rattle.forms.specs.GraphFaults.{graphVerdict}
+use Rattle.forms.proofs.RightLaws.{header-holds}
+use Rattle.forms.proofs.ThenLaws.{then-refused, then-passed, counted}
 use borrow.Author.Needs.{needs}
 use Rattle.checker.proofs.reader.read_graph.Statement.{statement}
 use Rattle.checker.proofs.reader.read_graph.Tie as tie

@@ -3,8 +3,8 @@ use borrow.Author.Needs.{needs}
 use Prim.Native.Nat.{_-_}
 use native.Mathlib.Omega.{arith}
 use mathlib.Core.Path.{_≡_, sym, _∙_}
-use Rattle.checker.specs.GraphFaults.{readsVerdict}
-use Rattle.checker.proofs.RightLaws.{read-holds}
+use Rattle.forms.specs.GraphFaults.{readsVerdict}
+use Rattle.forms.proofs.RightLaws.{read-holds}
 use Rattle.checker.proofs.ReadLaws.{reads-begin, reads-turn, reads-stop, reads-left, reads-end}
 use Rattle.checker.proofs.reader.reads_verdict.Statement.{statement}
 use Rattle.checker.proofs.reader.reads_verdict.Tie as tie

@@ -2,9 +2,9 @@
 use borrow.Author.Needs.{needs}
 use Prim.Native.Nat.{_-_, _≤_}
 use mathlib.Core.Path.{_≡_, _∙_}
-use Rattle.checker.proofs.Scan.{scan-begins, scan-turns, scan-stops, scan-ends}
-use Rattle.checker.specs.GraphForm.{vertexAt}
-use Rattle.checker.specs.GraphFaults.{firstFault, vertexFault}
+use Rattle.forms.proofs.Scan.{scan-begins, scan-turns, scan-stops, scan-ends}
+use Rattle.forms.specs.GraphForm.{vertexAt}
+use Rattle.forms.specs.GraphFaults.{firstFault, vertexFault}
 use Rattle.checker.proofs.reader.vertices_verdict.Statement.{statement}
 use Rattle.checker.proofs.reader.vertices_verdict.Tie as tie
 

@@ -1,0 +1,147 @@
+-- Numbers 19 and 21: a law for each way through the functions that test demands, reads and slacks.
+use Prim.Native.Nat.{ℕ, _+_, _-_, _*_, _/_, _%_, _<_, _≤_}
+use native.Mathlib.Omega.{arith}
+use mathlib.Core.Path.{_≡_, refl, sym, ap, ap₂, _∙_}
+use mathlib.Core.List.{List}
+use mathlib.Core.Bool.{Bool, true, false, cond, _&&_}
+use lib.Dec.{T, leb, eqb}
+use lib.ListN.{getD}
+use borrow.Author.Tests.{le-leb, lt-leb, eq-eqb, eqb-true}
+use Rattle.forms.specs.Bytes.{byte, be32}
+use Rattle.forms.specs.GraphReads.{Reads}
+use lib.IntN.{ℤ, pos, subℕ, _+ℤ_}
+use lib.Signed.{leZ}
+use Rattle.mathematics.specs.Price.{whole, sub}
+use Rattle.mathematics.specs.Bound.{startSlack, endSlack, vertexSlack, arcSlack}
+use Rattle.forms.specs.Limits.{markLimit}
+use Rattle.forms.specs.GraphForm.{vertexCount, arcCount, openingPrice, flags, vertexDemand, arcAt, arcTail, arcHead, arcCost, arcDemand}
+use Rattle.forms.specs.GraphOf.{graphOf, arcOf}
+use Rattle.forms.specs.AnswerForm.{signed32, inMarkAt, outMarkAt, marksOf}
+use Rattle.certify.specs.Certify.{vertexUnmet, arcUnmet, readUnmet, vertexSlackFault, arcSlackFault}
+use Rattle.certify.proofs.CertifyLawsSlack.{held-difference, plain-less-held, held-sum-less-held, not-below}
+
+module _ (s totals : List ℕ) (i : ℕ) where
+  pub vertex-unmet : getD totals i 0 < vertexDemand s i → 19 ≡ vertexUnmet s totals i
+  unfolding vertexUnmet
+  vertex-unmet h = simp (lt-leb _ _ h)
+
+  pub vertex-met : vertexDemand s i ≤ getD totals i 0 → 0 ≡ vertexUnmet s totals i
+  unfolding vertexUnmet
+  vertex-met h = simp (le-leb _ _ h)
+
+  module _ (d at : ℕ) (read : d ≡ be32 s at) (stands : at ≡ arcAt s i + 6) where
+    its-demand : d ≡ arcDemand s (arcAt s i)
+    its-demand = read ∙ ap (be32 s) stands
+
+    pub arc-unmet : getD totals i 0 < d → 19 ≡ arcUnmet s totals i
+    unfolding arcUnmet
+    arc-unmet h = simp (lt-leb (arcDemand s (arcAt s i)) (getD totals i 0) (omega (arith, its-demand)))
+
+    pub arc-met : d ≤ getD totals i 0 → 0 ≡ arcUnmet s totals i
+    unfolding arcUnmet
+    arc-met h = simp (le-leb (arcDemand s (arcAt s i)) (getD totals i 0) (omega (arith, its-demand)))
+
+pub read-unmet : (met : List Bool) (r : ℕ) → getD met r false ≡ false → 19 ≡ readUnmet met r
+unfolding readUnmet
+read-unmet met r e = simp e
+
+pub read-met : (met : List Bool) (r : ℕ) → getD met r false ≡ true → 0 ≡ readUnmet met r
+unfolding readUnmet
+read-met met r e = simp e
+
+-- The slacks of a vertex whose marks are held with the limit added, i and o.
+module _ (s t : List ℕ) (v i o : ℕ) (into : signed32 t (inMarkAt v) ≡ subℕ i markLimit) (out : signed32 t (outMarkAt v) ≡ subℕ o markLimit) where
+  start-test : leZ (pos 0) (startSlack whole (graphOf s) (marksOf t) v) ≡ leb i (openingPrice s + markLimit)
+  unfolding graphOf marksOf
+  start-test =
+      ap (λ x. leZ (pos 0) (sub whole (pos (openingPrice s)) x)) into ∙
+      (ap (leZ (pos 0)) (plain-less-held (openingPrice s) i markLimit) ∙ not-below (openingPrice s + markLimit) i)
+
+  end-test : leZ (pos 0) (endSlack whole (marksOf t) v) ≡ leb markLimit o
+  unfolding marksOf
+  end-test = ap (leZ (pos 0)) out ∙ not-below o markLimit
+
+  pub vertex-difference : vertexSlack whole (marksOf t) v ≡ subℕ i o
+  unfolding marksOf
+  vertex-difference = ap₂ (sub whole) into out ∙ held-difference i o markLimit
+
+  vertex-test : leZ (pos 0) (vertexSlack whole (marksOf t) v) ≡ leb o i
+  vertex-test = ap (leZ (pos 0)) vertex-difference ∙ not-below i o
+
+  pub vertex-crossed : i < o → 21 ≡ vertexSlackFault s t v
+  unfolding vertexSlackFault
+  vertex-crossed h = simp (start-test, end-test, vertex-test, lt-leb o i h) (none (cond (eqb (flags s v % 2) 1) (leb i (openingPrice s + markLimit)) true) (cond (eqb (flags s v / 2) 1) (leb markLimit o) true))
+    where
+      none : (a b : Bool) → _≡_ {A = ℕ} 21 (cond (a && (b && false)) 0 21)
+      none true true = refl
+      none true false = refl
+      none false b = refl
+
+  pub start-crossed : flags s v % 2 ≡ 1 → openingPrice s + markLimit < i → 21 ≡ vertexSlackFault s t v
+  unfolding vertexSlackFault
+  start-crossed f h = simp (eq-eqb _ _ f, start-test, lt-leb i (openingPrice s + markLimit) h)
+
+  pub end-crossed : flags s v / 2 ≡ 1 → o < markLimit → 21 ≡ vertexSlackFault s t v
+  unfolding vertexSlackFault
+  end-crossed f h = simp (eq-eqb _ _ f, end-test, lt-leb markLimit o h) (none (cond (eqb (flags s v % 2) 1) (leZ (pos 0) (startSlack whole (graphOf s) (marksOf t) v)) true))
+    where
+      none : (a : Bool) → _≡_ {A = ℕ} 21 (cond (a && false) 0 21)
+      none true = refl
+      none false = refl
+
+  -- a test that is made only where a flag is set
+  where-set : (flag a b : ℕ) → (flag ≡ 1 → a ≤ b) → (f : Bool) → eqb flag 1 ≡ f → cond f (leb a b) true ≡ true
+  where-set flag a b h true e = le-leb a b (h (eqb-true flag 1 e))
+  where-set flag a b h false e = refl
+
+  pub vertex-held : o ≤ i → (flags s v % 2 ≡ 1 → i ≤ openingPrice s + markLimit) → (flags s v / 2 ≡ 1 → markLimit ≤ o) → 0 ≡ vertexSlackFault s t v
+  unfolding vertexSlackFault
+  vertex-held h start end =
+      simp (start-test, end-test, vertex-test, le-leb o i h, where-set _ i (openingPrice s + markLimit) start (eqb (flags s v % 2) 1) refl, where-set _ markLimit o end (eqb (flags s v / 2) 1) refl)
+
+-- What is read of the record of arc a: its ends and its cost.
+pub record ArcRead (s : List ℕ) (a u v cost : ℕ) : Type 0 where
+  pub tail : u ≡ arcTail s (arcAt s a)
+  pub head : v ≡ arcHead s (arcAt s a)
+  pub costs : cost ≡ arcCost s (arcAt s a)
+
+pub arc-read : {s : List ℕ} {n a u v cost : ℕ} → n ≡ vertexCount s → u ≡ byte s (13 + 5 * n + 10 * a) → v ≡ byte s (13 + 5 * n + 10 * a + 1) →
+    cost ≡ be32 s (13 + 5 * n + 10 * a + 2) → ArcRead s a u v cost
+arc-read {s} {n} {a} e tail head costs =
+    record {
+      tail = tail ∙ ap (λ m. byte s (13 + 5 * m + 10 * a)) e;
+      head = head ∙ ap (λ m. byte s (13 + 5 * m + 10 * a + 1)) e;
+      costs = costs ∙ ap (λ m. be32 s (13 + 5 * m + 10 * a + 2)) e;
+    }
+
+pub arc-demand-read : (s : List ℕ) (n a d : ℕ) → n ≡ vertexCount s → d ≡ be32 s (13 + 5 * n + 10 * a + 6) → d ≡ arcDemand s (arcAt s a)
+arc-demand-read s n a d e read = read ∙ ap (λ m. be32 s (13 + 5 * m + 10 * a + 6)) e
+
+pub tail-below : {s : List ℕ} {n a u : ℕ} → Reads s → n ≡ vertexCount s → a < arcCount s → u ≡ byte s (13 + 5 * n + 10 * a) → u < vertexCount s
+tail-below {s} {n} {a} r e h tail =
+    omega (arith, r .arcs .each a h .rises, r .arcs .each a h .inside, tail ∙ ap (λ m. byte s (13 + 5 * m + 10 * a)) e)
+
+pub head-below : {s : List ℕ} {n a v : ℕ} → Reads s → n ≡ vertexCount s → a < arcCount s → v ≡ byte s (13 + 5 * n + 10 * a + 1) → v < vertexCount s
+head-below {s} {n} {a} r e h head = omega (arith, r .arcs .each a h .inside, head ∙ ap (λ m. byte s (13 + 5 * m + 10 * a + 1)) e)
+
+-- The slack of an arc: o is its tail's out-mark and i its head's in-mark, with the limit added.
+module _ (s t : List ℕ) (a u v cost i o : ℕ) (read : ArcRead s a u v cost) (into : signed32 t (inMarkAt v) ≡ subℕ i markLimit) (out : signed32 t (outMarkAt u) ≡ subℕ o markLimit) where
+  pub arc-difference : arcSlack whole (marksOf t) (arcOf s a) ≡ subℕ (cost + o) i
+  unfolding marksOf
+  arc-difference =
+      ap₃ (sym (read .costs)) (ap (λ x. signed32 t (outMarkAt x)) (sym (read .tail)) ∙ out) (ap (λ x. signed32 t (inMarkAt x)) (sym (read .head)) ∙ into)
+      ∙ held-sum-less-held cost o i markLimit
+    where
+      ap₃ : {c c′ : ℕ} {x x′ y y′ : ℤ} → c ≡ c′ → x ≡ x′ → y ≡ y′ → sub whole (pos c +ℤ x) y ≡ sub whole (pos c′ +ℤ x′) y′
+      ap₃ p q r = λ j. sub whole (pos (p j) +ℤ q j) (r j)
+
+  arc-test : leZ (pos 0) (arcSlack whole (marksOf t) (arcOf s a)) ≡ leb i (cost + o)
+  arc-test = ap (leZ (pos 0)) arc-difference ∙ not-below (cost + o) i
+
+  pub arc-crossed : cost + o < i → 21 ≡ arcSlackFault s t a
+  unfolding arcSlackFault
+  arc-crossed h = simp (arc-test, lt-leb i (cost + o) h)
+
+  pub arc-held : i ≤ cost + o → 0 ≡ arcSlackFault s t a
+  unfolding arcSlackFault
+  arc-held h = simp (arc-test, le-leb i (cost + o) h)

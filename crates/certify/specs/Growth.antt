@@ -1,0 +1,24 @@
+-- The vertices and arcs that a walk passes, as items, and what it is that totals of vertices and arcs have grown by them.
+use Prim.Native.Nat.{ℕ, _+_, _*_, _<_}
+use mathlib.Core.Path.{_≡_}
+use mathlib.Core.List.{List, [], _∷_}
+use lib.ListN.{length, getD}
+use Rattle.mathematics.specs.Cover.{Item, vert, arc, countOf}
+use Rattle.forms.specs.Limits.{maxVertices, maxArcs}
+use Rattle.forms.specs.GraphForm.{arcCount, arcAt, arcTail, arcHead}
+
+-- arc k of a graph form
+abbrev pub arcItem : List ℕ → ℕ → Item
+arcItem s k = arc (arcTail s (arcAt s k)) (arcHead s (arcAt s k))
+
+-- the arcs and vertices that a path passes after u, in turn
+abbrev pub onward : ℕ → List ℕ → List Item
+onward u [] = []
+onward u (v ∷ q) = arc u v ∷ vert v ∷ onward v q
+
+-- the total of each vertex and each arc has grown by the weight as often as it is among the items
+pub record Grown (s : List ℕ) (weight : ℕ) (items : List Item) (vb va ab aa : List ℕ) : Type 0 where
+  pub vertices-long : length va ≡ maxVertices
+  pub arcs-long : length aa ≡ maxArcs
+  pub vertices : (v : ℕ) → v < maxVertices → getD va v 0 ≡ getD vb v 0 + weight * countOf (vert v) items
+  pub arcs : (k : ℕ) → k < arcCount s → getD aa k 0 ≡ getD ab k 0 + weight * countOf (arcItem s k) items

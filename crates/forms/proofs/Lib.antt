@@ -1,0 +1,11 @@
+-- The laws that the proofs of the code cite, and facts of a form that reads.
+pub mod Scan
+pub mod ThenLaws
+pub mod PartLaws
+pub mod MarkLaws
+pub mod ArcLaws
+pub mod WalkLaws
+pub mod RightLaws
+pub mod GraphFacts
+pub mod GraphRange
+pub mod Lookup

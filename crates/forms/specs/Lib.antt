@@ -1,0 +1,11 @@
+pub mod Bytes
+pub mod Limits
+pub mod GraphForm
+pub mod GraphFaults
+pub mod GraphOf
+pub mod AnswerForm
+pub mod AnswerFaults
+pub mod BuildFaults
+pub mod GraphReads
+pub mod ArcTable
+pub mod Empty

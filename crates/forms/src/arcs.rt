@@ -1,0 +1,69 @@
+// Finding an arc by its ends: the table of first arcs, and the look at the arcs of one tail.
+use crate::Found;
+use crate::Graph;
+use crate::bytes::be16;
+use crate::bytes::wide;
+ghost use mathlib.Core.Path.{_≡_};
+ghost use Prim.Native.Nat.{_<_, _≤_};
+ghost use Rattle.forms.specs.GraphOf.{arcsOf};
+ghost use Rattle.forms.specs.GraphReads.{ArcsRight};
+ghost use Rattle.forms.specs.ArcTable.{AsCounted, ArcTable, tailsBelow, arcNumber};
+ghost use Rattle.forms.specs.Limits.{maxVertices};
+
+// An entry of the table of first arcs as a number to reckon with.
+fn wide16(b: u16) -> usize
+    ensures { λ r. ⌜ (r ≡ b) × (r < 65536) ⌝ }
+{
+    b as usize
+}
+
+// How many arcs have a tail below u, counted on from an arc before which all have one: arcs ascend by tail, so the first that has none ends the count.
+fn arcs_below(s: &[u8], n: usize, count: usize, u: usize, from: usize) -> usize
+    requires { ⌜ AsCounted (now s) n count × (from ≤ tailsBelow (arcsOf (now s)) u) ⌝ }
+    ensures { λ r. ⌜ r ≡ tailsBelow (arcsOf (now (s .entry))) u ⌝ }
+{
+    let base = Graph::HEADER + Graph::VERTEX * n;
+    let mut a = from;
+    while a < count {
+        if u <= wide(s[base + Graph::ARC * a]) {
+            return a;
+        }
+        a += 1;
+    }
+    a
+}
+
+// The table of first arcs: at u the number of arcs whose tail is below u. Arcs are passed once, since they ascend by tail.
+pub fn first_arcs(s: &[u8]) -> [u16; Graph::MAX_VERTICES + 1]
+    requires { ⌜ ArcsRight (now s) ⌝ }
+    ensures { λ r. ⌜ ArcTable (now (s .entry)) r ⌝ }
+{
+    let n = wide(s[Graph::AT_VERTICES]);
+    let count = be16(s, Graph::AT_ARCS);
+    let mut first = [0u16; Graph::MAX_VERTICES + 1];
+    let mut below = 0;
+    let mut u = 0;
+    while u <= Graph::MAX_VERTICES {
+        below = arcs_below(s, n, count, u, below);
+        first[u] = below as u16;
+        u += 1;
+    }
+    first
+}
+
+// The number of the arc from u to v: a look at the arcs of tail u alone.
+pub fn find_arc(s: &[u8], first: &[u16; Graph::MAX_VERTICES + 1], u: usize, v: usize) -> Found
+    requires { ⌜ ArcTable (now s) (now first) × (u < maxVertices) ⌝ }
+    ensures { λ r. ⌜ r ≡ arcNumber (arcsOf (now (s .entry))) u v ⌝ }
+{
+    let base = Graph::HEADER + Graph::VERTEX * wide(s[Graph::AT_VERTICES]);
+    let end = wide16(first[u + 1]);
+    let mut a = wide16(first[u]);
+    while a < end {
+        if wide(s[base + Graph::ARC * a + 1]) == v {
+            return Found::At(a);
+        }
+        a += 1;
+    }
+    Found::Missing
+}
