@@ -8,31 +8,46 @@ use libc::STDOUT_FILENO;
 use listing::LONGEST_INPUT;
 use listing::ROOM;
 use listing::list_refusal;
+ghost use Rattle.answer.specs.Answered.{Answered};
 
-fn refuse(number: usize, place: usize) {
-    let mut line = [0u8; ROOM];
-    let written = list_refusal(number, place, &mut line);
-    io::write_all(STDERR_FILENO, &line[..written]);
+// How many bytes go to standard output, and how many to standard error.
+struct Written {
+    form: usize,
+    line: usize,
 }
 
-fn answer(graph: &[u8]) {
+// Writes the answer form to the front of `out`, or the refusal's line to the front of `err`.
+fn answer(graph: &[u8], out: &mut [u8; Answer::LONGEST], err: &mut [u8; ROOM]) -> Written
+    ensures { λ r. ⌜ Answered (now (graph .entry)) (now (out .entry)) (now (out .exit)) (now (err .entry)) (now (err .exit)) r ⌝ }
+{
     if graph.len() > LONGEST_INPUT {
-        refuse(1, 0);
-        return;
+        return Written {
+            form: 0,
+            line: list_refusal(1, 0, err),
+        };
     }
-    let mut form = [0u8; Answer::LONGEST];
-    let built = build(graph, &mut form);
+    let built = build(graph, out);
     if built.number != 0 {
-        refuse(built.number, built.place);
-        return;
+        return Written {
+            form: 0,
+            line: list_refusal(built.number, built.place, err),
+        };
     }
-    let written = built.written;
-    io::write_all(STDOUT_FILENO, &form[..written]);
+    Written {
+        form: built.written,
+        line: 0,
+    }
 }
 
 fn main() {
     // One byte more than is looked at, so that a longer input is told apart.
     let mut graph = [0u8; LONGEST_INPUT + 1];
     let length = io::read_full(STDIN_FILENO, &mut graph);
-    answer(&graph[..length]);
+    let mut out = [0u8; Answer::LONGEST];
+    let mut err = [0u8; ROOM];
+    let written = answer(&graph[..length], &mut out, &mut err);
+    let form = written.form;
+    let line = written.line;
+    io::write_all(STDOUT_FILENO, &out[..form]);
+    io::write_all(STDERR_FILENO, &err[..line]);
 }

@@ -1,7 +1,7 @@
 -- What `assemble` lists, one law for each way through it.
 use Prim.Native.Nat.{ℕ, _≤_, _<_}
 use native.Mathlib.Omega.{arith}
-use mathlib.Core.Path.{_≡_, ap, sym, _∙_}
+use mathlib.Core.Path.{_≡_, ap, _∙_}
 use mathlib.Core.List.{List, []}
 use lib.ListN.{length, take}
 use borrow.Author.Tests.{lt-ltb, le-ltb, eq-eqb, ne-eqb}
@@ -11,34 +11,35 @@ use Rattle.builder.specs.declared.Built.{Built}
 use Rattle.forms.specs.BuildFaults.{roomAsked, buildVerdict}
 use Rattle.builder.specs.Build.{BuildPromise}
 use Rattle.listing.specs.Text.{refusedLine}
-use Rattle.listing.specs.Listing.{listingOf, longestInput, fitted, Writes}
+use Rattle.listing.specs.Listing.{listingOf, longestInput, room, fitted, Writes}
+use Rattle.listing.proofs.Writing.{written-whole}
 use Rattle.assemble.specs.Assemble.{assembledListing, Assembled}
 
 -- the graph is too long
-pub lists-too-long : {s before after : List ℕ} {r : ℕ} → longestInput < length s → Writes before (fitted before (refusedLine 1 0)) after r → Assembled s before after r
+pub lists-too-long : {s before after : List ℕ} {r : ℕ} → length before ≡ room → longestInput < length s → Writes before (fitted before (refusedLine 1 0)) after r → Assembled s before after r
 unfolding assembledListing
-lists-too-long h w = record { answer = []; accepted = λ l z. absurd (omega arith); writes = simp (lt-ltb _ _ h) w }
+lists-too-long e h w = record { answer = []; accepted = λ l z. absurd (omega arith); writes = simp (lt-ltb _ _ h) (written-whole (omega arith) w) }
 
 module _ {s lent held : List ℕ} {b : Built} (long : length lent ≡ roomAsked) (p : BuildPromise s lent held b) where
   verdict : refusal (b .number) (b .place) ≡ buildVerdict s roomAsked
   verdict = p .verdict ∙ ap (buildVerdict s) long
 
   -- the builder refuses it
-  pub lists-refused : {before after : List ℕ} {r : ℕ} → length s ≤ longestInput → (b .number ≡ 0 → ⊥) → Writes before (fitted before (refusedLine (b .number) (b .place))) after r → Assembled s before after r
+  pub lists-refused : {before after : List ℕ} {r : ℕ} → length before ≡ room → length s ≤ longestInput → (b .number ≡ 0 → ⊥) → Writes before (fitted before (refusedLine (b .number) (b .place))) after r → Assembled s before after r
   unfolding assembledListing
-  lists-refused short n w =
+  lists-refused e short n w =
       record {
         answer = [];
         accepted = λ l z. absurd (n (ap (λ (v : Verdict). v .number) verdict ∙ z));
-        writes = simp (le-ltb _ _ short, ← verdict, ne-eqb _ _ n) w;
+        writes = simp (le-ltb _ _ short, ← verdict, ne-eqb _ _ n) (written-whole (omega arith) w);
       }
 
   -- an answer form was built
-  pub lists-built : {before after : List ℕ} {r : ℕ} → length s ≤ longestInput → b .number ≡ 0 → Writes before (fitted before (listingOf s (take (b .written) held))) after r → Assembled s before after r
+  pub lists-built : {before after : List ℕ} {r : ℕ} → length before ≡ room → length s ≤ longestInput → b .number ≡ 0 → Writes before (fitted before (listingOf s (take (b .written) held))) after r → Assembled s before after r
   unfolding assembledListing
-  lists-built short z w =
+  lists-built e short z w =
       record {
         answer = take (b .written) held;
-        accepted = λ l e. p .accepted z;
-        writes = simp (le-ltb _ _ short, ← verdict, eq-eqb _ _ z) w;
+        accepted = λ _ _. p .accepted z;
+        writes = simp (le-ltb _ _ short, ← verdict, eq-eqb _ _ z) (written-whole (omega arith) w);
       }

@@ -9,7 +9,7 @@ use Rattle.forms.specs.GraphFaults.{nothingRefused}
 use Rattle.checker.specs.Check.{checkVerdict}
 use Rattle.forms.specs.BuildFaults.{roomAsked, buildVerdict}
 use Rattle.listing.specs.Text.{refusedLine}
-use Rattle.listing.specs.Listing.{listingOf, longestInput, fitted, Writes}
+use Rattle.listing.specs.Listing.{listingOf, longestInput, Writes}
 
 -- the listing for graph bytes of any length, where the builder's answer form is t
 unfoldable pub assembledListing : List ℕ → List ℕ → List ℕ
@@ -22,4 +22,4 @@ assembledListing s t =
 pub record Assembled (s before after : List ℕ) (written : ℕ) : Type 0 where
   pub answer : List ℕ
   pub accepted : length s ≤ longestInput → buildVerdict s roomAsked .number ≡ 0 → checkVerdict s answer ≡ nothingRefused
-  pub writes : Writes before (fitted before (assembledListing s answer)) after written
+  pub writes : Writes before (assembledListing s answer) after written

@@ -10,7 +10,7 @@ use listing::list_refusal;
 ghost use Rattle.assemble.specs.Assemble.{Assembled};
 
 // Writes the listing to the front of `text` and returns how many bytes it has.
-fn assemble(graph: &[u8], text: &mut [u8]) -> usize
+fn assemble(graph: &[u8], text: &mut [u8; ROOM]) -> usize
     ensures { λ r. ⌜ Assembled (now (graph .entry)) (now (text .entry)) (now (text .exit)) r ⌝ }
 {
     if graph.len() > LONGEST_INPUT {

@@ -3,8 +3,8 @@ use Prim.Native.Nat.{ℕ, _≤_, _<_}
 use native.Mathlib.Omega.{arith}
 use mathlib.Core.Path.{_≡_, refl, sym, ap, _∙_}
 use mathlib.Core.List.{List, _++_}
-use lib.ListN.{length, drop}
-use lib.Seq.{length-sets, sets-eq, length-take-le}
+use lib.ListN.{length, take, drop, length-append}
+use lib.Seq.{sets-eq, length-take-le, take-append-seam}
 use borrow.Author.Tests.{lt-ltb, le-ltb, le-leb, lt-leb, eq-eqb, ne-eqb}
 use Rattle.forms.specs.declared.Verdict.{Verdict}
 use Rattle.forms.specs.GraphFaults.{graphVerdict}
@@ -17,22 +17,34 @@ use Rattle.listing.proofs.Accepted.{listing-few}
 -- the lent output is too short
 pub writes-nothing : (out text : List ℕ) → length out < room → Writes out (fitted out text) out 0
 unfolding fitted
-writes-nothing out text h = simp (lt-ltb _ _ h) (record { bytes = refl; counted = refl; fits = omega arith; front = refl })
+writes-nothing out text h = simp (lt-ltb _ _ h) (record { bytes = refl; counted = refl })
 
 -- it is not, and the text was stored from its front on
 pub writes-text : {out text after : List ℕ} {r : ℕ} → room ≤ length out → length text ≤ room → Puts out 0 text after r → Writes out (fitted out text) after r
 unfolding fitted
 writes-text {out} {text} {after} {r} h l p =
     let e : r ≡ length text = omega (arith, p .ends) in
-    let same : length after ≡ length out = ap length (p .bytes) ∙ length-sets out 0 text in
-    let fits : r ≤ length after = omega arith in
     simp (le-ltb (length out) room h)
     (record {
       bytes = p .bytes ∙ (sets-eq text out 0 (omega arith) ∙ ap (λ k. text ++ drop k out) (sym (p .ends)));
       counted = e;
-      fits = fits;
-      front = sym (length-take-le r after fits);
     })
+
+-- the bytes written lie within the output, and they are the text
+module _ {before text after : List ℕ} {r : ℕ} (w : Writes before text after r) where
+  pub written-fits : r ≤ length after
+  written-fits = omega (arith, ap length (w .bytes), length-append text (drop r before), w .counted)
+
+  pub written-long : r ≡ length (take r after)
+  written-long = sym (length-take-le r after written-fits)
+
+  pub written-is-text : take r after ≡ text
+  written-is-text = rw (w .bytes, w .counted) (take-append-seam text (drop (length text) before))
+
+-- an output of the room asked for takes the whole text
+pub written-whole : {before text after : List ℕ} {r : ℕ} → room ≤ length before → Writes before (fitted before text) after r → Writes before text after r
+unfolding fitted
+written-whole {before} h w = simp (le-ltb (length before) room h) at w
 
 -- the listing of an answer that is refused
 pub lists-refusal : (s t : List ℕ) (v : Verdict) {out after : List ℕ} {r : ℕ} → v ≡ checkVerdict s t → (v .number ≡ 0 → ⊥) → room ≤ length out →

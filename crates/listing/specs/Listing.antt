@@ -1,11 +1,11 @@
 -- Document 01, "The two programs": the listing of an answer form t for a graph form s. "First line: number of paths, price. Then per path its
 -- weight and vertices. Last line: the bound. A refusal prints one line, `refused`, number, place."
-use Prim.Native.Nat.{ℕ, zero, suc, _≤_}
+use Prim.Native.Nat.{ℕ, zero, suc}
 use mathlib.Core.Path.{_≡_}
 use mathlib.Core.List.{List, [], _++_}
 use mathlib.Core.Bool.{cond}
 use lib.Dec.{ltb, leb, eqb}
-use lib.ListN.{length, take, drop}
+use lib.ListN.{length, drop}
 use lib.IntN.{natAbs}
 use Rattle.mathematics.specs.Price.{whole}
 use Rattle.mathematics.specs.Cover.{price}
@@ -60,6 +60,3 @@ fitted out text = cond (ltb (length out) room) [] text
 pub record Writes (before text after : List ℕ) (written : ℕ) : Type 0 where
   pub bytes : after ≡ text ++ drop written before
   pub counted : written ≡ length text
-  -- what follows from these, so that a caller can take the bytes written with no proof
-  pub fits : written ≤ length after
-  pub front : written ≡ length (take written after)

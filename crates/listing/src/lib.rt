@@ -59,8 +59,9 @@ fn put_cover(graph: &[u8], answer: &[u8], out: &mut [u8]) -> usize
     put_bound_line(out, last, price)
 }
 
-// Writes the listing of an answer form for a graph form at the front of `out` and returns how many bytes it has; where `out` is shorter
-// than ROOM, writes nothing and returns 0.
+// Writes the listing of an answer form for a graph form at the front of `out` and returns how many bytes it has. What is refused is listed
+// too, by its line: that is no refusal of the call. Where `out` is shorter than ROOM, changes no byte and returns 0; document 01 has no
+// number for that, and the programs lend ROOM bytes.
 pub fn list_cover(graph: &[u8], answer: &[u8], out: &mut [u8]) -> usize
     ensures { λ r. ⌜ Writes (now (out .entry)) (fitted (now (out .entry)) (listingOf (now (graph .entry)) (now (answer .entry)))) (now (out .exit)) r ⌝ }
 {
@@ -74,7 +75,7 @@ pub fn list_cover(graph: &[u8], answer: &[u8], out: &mut [u8]) -> usize
     put_cover(graph, answer, out)
 }
 
-// Writes the line of a refusal, as list_cover does.
+// Writes the line of a refusal and returns how many bytes it has; 0, and no byte changed, where `out` is shorter than ROOM.
 pub fn list_refusal(number: usize, place: usize, out: &mut [u8]) -> usize
     ensures { λ r. ⌜ Writes (now (out .entry)) (fitted (now (out .entry)) (refusedLine number place)) (now (out .exit)) r ⌝ }
     ensures limits { λ r. do ⌜ ((← ⟦ROOM⟧ .entry) ≡ room) × ((← ⟦LONGEST_INPUT⟧ .entry) ≡ longestInput) ⌝ }
@@ -85,7 +86,8 @@ pub fn list_refusal(number: usize, place: usize, out: &mut [u8]) -> usize
     put_pair_line(out, 0, b"refused ", number, place)
 }
 
-// Writes the listing of what two inputs hold, of any length, as list_cover does.
+// Writes the listing of what two inputs hold, of any length, and returns how many bytes it has; 0, and no byte changed, where `out` is
+// shorter than ROOM.
 pub fn list_inputs(graph: &[u8], answer: &[u8], out: &mut [u8]) -> usize
     ensures { λ r. ⌜ Writes (now (out .entry)) (fitted (now (out .entry)) (inputsListing (now (graph .entry)) (now (answer .entry)))) (now (out .exit)) r ⌝ }
 {

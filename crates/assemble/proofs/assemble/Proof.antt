@@ -14,11 +14,8 @@ use Rattle.assemble.proofs.assemble.Tie as tie
 list-refusal-requires : tie.Need-list-refusal-requires
 list-refusal-requires c κs = search needs
 
-same-length : tie.Need-same-length
-same-length c = search needs
-
 returns : tie.Need-returns
-returns c = lists-too-long (c .before .before .before .before .if1 .taken) (c .before .before .list-refusal .ensures .0)
+returns c = lists-too-long (search needs) (c .before .before .if1 .taken) (c .list-refusal .ensures .0)
 
 slice-aggregate-build : tie.Need-slice-aggregate-build
 slice-aggregate-build c = search needs
@@ -29,13 +26,10 @@ build-requires c κs = search needs
 list-refusal-requires-2 : tie.Need-list-refusal-requires-2
 list-refusal-requires-2 c κs = search needs
 
-same-length-2 : tie.Need-same-length-2
-same-length-2 c = search needs
-
 returns-2 : tie.Need-returns-2
 returns-2 c =
-    let l = c .before .before .before .before .before .before .before in
-    lists-refused (length-replicate {A = ℕ} roomAsked 0) (l .build .ensures) (l .before .before .if1 .left) (c .before .before .before .before .if2 .taken) (c .before .before .list-refusal2 .ensures .0)
+    let l = c .before .before .before .before .before in
+    lists-refused (length-replicate {A = ℕ} roomAsked 0) (l .build .ensures) (search needs) (l .before .before .if1 .left) (c .before .before .if2 .taken) (c .list-refusal2 .ensures .0)
 
 array-share-prefix-answer : tie.Need-array-share-prefix-answer
 array-share-prefix-answer c = search needs
@@ -48,28 +42,22 @@ slice-aggregate-list-cover c =
 list-cover-requires : tie.Need-list-cover-requires
 list-cover-requires c κs = search needs
 
-same-length-3 : tie.Need-same-length-3
-same-length-3 c = search needs
-
 returns-3 : tie.Need-returns-3
 returns-3 c =
-    let l = c .before .before .before .before .before .before .before .before in
-    lists-built (length-replicate {A = ℕ} roomAsked 0) (l .build .ensures) (l .before .before .if1 .left) (c .before .before .before .before .before .if2 .left) (c .before .before .list-cover .ensures)
+    let l = c .before .before .before .before .before .before in
+    lists-built (length-replicate {A = ℕ} roomAsked 0) (l .build .ensures) (search needs) (l .before .before .if1 .left) (c .before .before .before .if2 .left) (c .list-cover .ensures)
 
 pub assemble-spec : {M : Type 1} → statement M
 assemble-spec =
     tie.close
     (tie.spec
     list-refusal-requires
-    same-length
     returns
     slice-aggregate-build
     build-requires
     list-refusal-requires-2
-    same-length-2
     returns-2
     array-share-prefix-answer
     slice-aggregate-list-cover
     list-cover-requires
-    same-length-3
     returns-3)

@@ -1,0 +1,75 @@
+-- `recheck::main` is safe: the bytes that are to be written are within what was lent.
+-- Assumes nothing.
+use borrow.Author.Needs.{needs}
+use Rattle.listing.proofs.Writing.{written-fits, written-long}
+use Rattle.recheck.proofs.main.Statement.{statement}
+use Rattle.recheck.proofs.main.Tie as tie
+
+slice-aggregate-load : tie.Need-slice-aggregate-load
+slice-aggregate-load c = search needs
+
+slice-aggregate-load-2 : tie.Need-slice-aggregate-load-2
+slice-aggregate-load-2 c = search needs
+
+load-requires : tie.Need-load-requires
+load-requires c κs = search needs
+
+slice-aggregate-load-3 : tie.Need-slice-aggregate-load-3
+slice-aggregate-load-3 c = search needs
+
+slice-aggregate-load-4 : tie.Need-slice-aggregate-load-4
+slice-aggregate-load-4 c = search needs
+
+load-requires-2 : tie.Need-load-requires-2
+load-requires-2 c κs = search needs
+
+array-share-prefix-graph : tie.Need-array-share-prefix-graph
+array-share-prefix-graph c = search needs
+
+slice-aggregate-list-inputs : tie.Need-slice-aggregate-list-inputs
+slice-aggregate-list-inputs c = search needs
+
+array-share-prefix-answer : tie.Need-array-share-prefix-answer
+array-share-prefix-answer c = search needs
+
+slice-aggregate-list-inputs-2 : tie.Need-slice-aggregate-list-inputs-2
+slice-aggregate-list-inputs-2 c = search needs
+
+slice-aggregate-list-inputs-3 : tie.Need-slice-aggregate-list-inputs-3
+slice-aggregate-list-inputs-3 c = search needs
+
+list-inputs-requires : tie.Need-list-inputs-requires
+list-inputs-requires c κs = search needs
+
+array-share-prefix-text : tie.Need-array-share-prefix-text
+array-share-prefix-text c = written-fits (c .before .list-inputs .ensures)
+
+slice-aggregate-write-all : tie.Need-slice-aggregate-write-all
+slice-aggregate-write-all c = written-long (c .before .before .list-inputs .ensures)
+
+write-all-requires : tie.Need-write-all-requires
+write-all-requires c κs = search needs
+
+returns : tie.Need-returns
+returns c = search needs
+
+pub main-spec : {M : Type 1} → statement M
+main-spec =
+    tie.close
+    (tie.spec
+    slice-aggregate-load
+    slice-aggregate-load-2
+    load-requires
+    slice-aggregate-load-3
+    slice-aggregate-load-4
+    load-requires-2
+    array-share-prefix-graph
+    slice-aggregate-list-inputs
+    array-share-prefix-answer
+    slice-aggregate-list-inputs-2
+    slice-aggregate-list-inputs-3
+    list-inputs-requires
+    array-share-prefix-text
+    slice-aggregate-write-all
+    write-all-requires
+    returns)
