@@ -13,9 +13,9 @@ use Rattle.mathematics.specs.Lists.{holds}
 use Rattle.mathematics.specs.Graph.{Vertex, Arc, Graph, WellFormed}
 use Rattle.mathematics.specs.Cover.{Weighted, IsCover, price, IsLowest}
 use Rattle.mathematics.specs.Prepare.{prepare, overlap, longest, joinAt}
-use Rattle.mathematics.specs.Bound.{Marks, SlacksHold, bound}
+use Rattle.mathematics.specs.Bound.{Marks, SlacksHold, bound, Shows}
 use Rattle.mathematics.proofs.PriceKinds.{whole-ordered}
-use Rattle.mathematics.proofs.Lowest.{Shows, shown-is-lowest}
+use Rattle.mathematics.proofs.Lowest.{shown-is-lowest}
 
 abbrev vertex : Bool → Bool → Vertex
 vertex s e = record { start = s; end = e; demand = 1 }

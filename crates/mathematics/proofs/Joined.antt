@@ -9,10 +9,9 @@ use mathlib.Core.Bool.{Bool, true, false, cond}
 use mathlib.Core.Logic.{inl, inr}
 use lib.Dec.{T, eqb, eqb→eq, eqb-refl}
 use lib.ListN.{length, getD, set, drop}
-use Rattle.mathematics.specs.Lists.{All}
+use Rattle.mathematics.specs.Lists.{All, Pairwise}
 use Rattle.mathematics.specs.Prepare.{Meeting, longest, without, joinAt, joinWhile}
 use Rattle.mathematics.proofs.Basics.{all-from, all-among}
-use Rattle.mathematics.proofs.WithReads.{Pairwise}
 use Rattle.mathematics.proofs.Parts.{Within, Held, within-self, within-trans, held-trans, Parts, parts}
 use Rattle.mathematics.proofs.Overlap.{Clear, clear-swap, overlap-meets, drop-length, none-across-left}
 use Rattle.mathematics.proofs.Taken.{Taken, here, there, taken-all, put-all, taken-length, taken-swap, taken-pairwise, put-pairwise}

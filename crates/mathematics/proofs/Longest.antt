@@ -8,9 +8,8 @@ use mathlib.Core.Bool.{Bool, true, false, cond}
 use mathlib.Core.Logic.{_⊎_, inl, inr}
 use lib.Dec.{T, ltb, eqb, ltb→lt, nltb→le, not-T, eqb→eq, eqb-refl}
 use lib.ListN.{length, getD}
-use Rattle.mathematics.specs.Lists.{All}
+use Rattle.mathematics.specs.Lists.{All, Pairwise}
 use Rattle.mathematics.specs.Prepare.{overlap, Meeting, longer, longestWith, longestFrom, longest}
-use Rattle.mathematics.proofs.WithReads.{Pairwise}
 
 abbrev meeting : ℕ → List ℕ → ℕ → List ℕ → Meeting
 meeting i a j b = record { length = overlap a b; i = i; j = j }

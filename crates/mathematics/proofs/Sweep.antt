@@ -10,10 +10,10 @@ use native.Mathlib.Nat.{eq-zero-or-pos, mul-add, add-mul, add-zero, le-refl, le-
 use native.Mathlib.Omega.{arith}
 use lib.Dec.{T, eqb, eqb→eq, eqb-refl, leb, leb→le, nleb→lt, ltb→lt, not-T}
 use lib.ListN.{length, length-append}
-use Rattle.mathematics.specs.Lists.{All}
+use Rattle.mathematics.specs.Lists.{All, sumOver}
 use Rattle.mathematics.specs.Cover.{oneIf}
 use Rattle.mathematics.proofs.Basics.{all-append, all-from, all-weaken, test, is-true, is-false}
-use Rattle.mathematics.proofs.Loads.{unequal, Load, sumOver, worth, one, none, passing, failing, sumOver-append, worth-append, worth-same, worth-none, worth-nothing, worth-empty, worth-parts, length-parts, all-passing, all-failing, relabel, worth-relabel, length-relabel, all-relabel, isPresent, worth-present}
+use Rattle.mathematics.proofs.Loads.{unequal, Load, worth, one, none, passing, failing, sumOver-append, worth-append, worth-same, worth-none, worth-nothing, worth-empty, worth-parts, length-parts, all-passing, all-failing, relabel, worth-relabel, length-relabel, all-relabel, isPresent, worth-present}
 
 -- a walk from one node to another, along links
 pub record Walk (L : Type 0) : Type 0 where

@@ -1,10 +1,11 @@
 -- Document 01, "Preparing the reads": drop, then join the longest overlap while there is one.
 use Prim.Native.Nat.{ℕ, zero, suc, _+_, _-_, min, max}
+use mathlib.Core.Path.{_≡_}
 use mathlib.Core.List.{List, [], _∷_, _++_}
 use mathlib.Core.Bool.{Bool, true, false, cond, not, _&&_, _||_}
-use lib.Dec.{ltb, leb, eqb}
+use lib.Dec.{T, ltb, leb, eqb}
 use lib.ListN.{length, getD, take, drop, set}
-use Rattle.mathematics.specs.Lists.{begins, holds, someHolds}
+use Rattle.mathematics.specs.Lists.{Pairwise, begins, holds, someHolds}
 
 -- r lies in one of ps and is shorter than it
 abbrev pub someLonger : List (List ℕ) → List ℕ → Bool
@@ -74,3 +75,11 @@ joinWhile (suc turns) rs =
 -- "What remains are the prepared reads."
 unfoldable pub prepare : List (List ℕ) → List (List ℕ)
 prepare rs = joinWhile (length rs) (dropParts [] rs)
+
+-- neither step has anything to do with r and s, in this order: r is no consecutive part of s, and no proper suffix of r is a proper prefix of s
+abbrev pub Apart : List ℕ → List ℕ → Type 0
+Apart r s = (T (holds s r) → ⊥) × (overlap r s ≡ 0)
+
+-- any two reads, at different places, are apart both ways: what is to be shown of the prepared ones, that no read is left to drop or to join
+abbrev pub Independent : List (List ℕ) → Type 0
+Independent rs = Pairwise (λ r s. Apart r s × Apart s r) rs
