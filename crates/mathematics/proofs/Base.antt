@@ -1,5 +1,5 @@
--- The links that a lowest-price cover may use, with what they must carry (MATHEMATICS.md section 5): an opening link for each useful start, a closing link
--- for each useful end, and a link for each ask between useful vertices, which must carry its rest. Transport.antt gets them as edges and jobs.
+-- The links that a lowest-price cover may use, with what they must carry, from which strong duality sets out: an opening link for each useful start, a
+-- closing link for each useful end, and a link for each ask between useful vertices, which must carry its rest. Transport.antt gets them as edges and jobs.
 use Prim.Native.Nat.{ℕ, suc, _+_, _*_, _≤_, _<_}
 use native.Mathlib.Omega.{arith}
 use native.Mathlib.Nat.{mul-zero, zero-mul, zero-add, add-zero}

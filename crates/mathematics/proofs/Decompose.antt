@@ -1,4 +1,4 @@
--- From a flow to weighted paths (MATHEMATICS.md section 6): loads on the links of a graph that balance, together with one unit for each read, are
+-- From a flow to weighted paths, the last step of strong duality: loads on the links of a graph that balance, together with one unit for each read, are
 -- the sum of weighted paths from starts to ends, no more of them than there are loads and reads, which hold every read.
 use Prim.Native.Nat.{ℕ, zero, suc, _+_, _*_, _≤_}
 use native.Mathlib.Omega.{arith}

@@ -77,7 +77,7 @@ module _ {E : Type 0} (G : Graph E) where
       let r = f (omega arith) in
       (r .0, λ h. (r .1, r .2))
 
-  -- "one path for each asking item, its demand as the weight"
+  -- a path for each asking item, with its demand as the weight
   itemPaths : (needs : List Ask) → All (λ a. 1 ≤ a .demand → ItemOnPath G (a .item)) needs → List Weighted
   itemPaths [] h = []
   itemPaths (a ∷ needs) h = record { weight = a .demand; path = itemPath (a .demand) (a .item) (h .0) .0 } ∷ itemPaths needs (h .1)

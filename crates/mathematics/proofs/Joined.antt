@@ -164,7 +164,7 @@ module _ (rs rs′ : List (List ℕ)) (j : Join rs rs′) where
       go (inr (inl w)) = r .1 w
       go (inr (inr (before, after, u, w, e, f, g, p, q))) = none-across-left (j .x) (j .o) k [] u before after f p e l (most .0)
 
-  -- "still none within another"
+  -- after the join, too, no read stands in another
   pub join-clear : Pairwise Clear rs → Pairwise Clear rs′
   join-clear h =
       let (lr, ls, rs₁, others) = join-old Clear clear-swap h in

@@ -1,5 +1,5 @@
--- Marks for the vertices from marks for the nodes of the network (MATHEMATICS.md section 5): a useful vertex takes those of its two sides; one that no
--- start reaches takes the greatest, one that a start reaches and that reaches no end the least. Then no slack is below nothing.
+-- Marks for the vertices from marks for the nodes of the network: a useful vertex takes those of its two sides; one that no start reaches takes the
+-- greatest, one that a start reaches and that reaches no end the least. Then no slack is below nothing.
 use Prim.Native.Nat.{ℕ, suc, _+_}
 use native.Mathlib.Omega.{arith}
 use mathlib.Core.Path.{_≡_, refl, sym, ap, ap₂, subst, subst₂, _∙_}

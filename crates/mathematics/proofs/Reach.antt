@@ -458,7 +458,7 @@ module _ {E : Type 0} (G : Graph E) (wf : WellFormed G) where
       held-lies s p v r (path-linked G s p h) (start-from-start G s (path-start G s p h))
       (end-to-end G (lastOf s p) (path-end G s p h)) k
 
-  -- "A read lies on such a path exactly when its first vertex is reached from a start and its last reaches an end."
+  -- A read lies on a path exactly when its first vertex is reached from a start and its last reaches an end.
   pub read-on-path : (v : ℕ) (r : List ℕ) → T (linked (G .arcs) (v ∷ r)) →
       ReadOnPath G (v ∷ r) ↔ (T (fromStart G v) × T (toEnd G (lastOf v r)))
   read-on-path v r l = (λ h. path-lies (h .0) v r (h .1) (h .2), λ h. back (from-start-path G v (h .0)) (to-end-path G (lastOf v r) (h .1)))

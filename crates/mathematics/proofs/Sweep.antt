@@ -1,6 +1,6 @@
--- A flow that balances at every node is a list of weighted walks (MATHEMATICS.md section 6, by another induction): nodes are numbers, links rise,
--- and the nodes between 0 and M are swept away one after the other: what enters a node is paired with what leaves it, each pair one piece. A pairing
--- has no more pieces than there were, so there are no more walks than links; and a pairing keeps the worth of the flow, whatever the links are worth.
+-- A flow that balances at every node is a list of weighted walks: nodes are numbers, links rise, and the nodes between 0 and M are swept away one after
+-- the other: what enters a node is paired with what leaves it, each pair one piece. A pairing has no more pieces than there were, so there are no more
+-- walks than links; and a pairing keeps the worth of the flow, whatever the links are worth.
 use Prim.Native.Nat.{ℕ, zero, suc, pred, _+_, _*_, _-_, _≤_, _<_}
 use mathlib.Core.Path.{_≡_, refl, sym, ap, subst, subst₂, _∙_}
 use mathlib.Core.List.{List, [], _∷_, _++_}

@@ -1,4 +1,4 @@
--- The links of a graph as a network for Transport.antt (MATHEMATICS.md section 5): its nodes are the root and the two sides of each useful vertex, every
+-- The links of a graph as a network for Transport.antt: its nodes are the root and the two sides of each useful vertex, every
 -- node is reached from the root and reaches it, and there is a job for each rest and each read.
 use Prim.Native.Nat.{ℕ, _-_, _/_, _<_}
 use native.Mathlib.Omega.{arith}
