@@ -1,4 +1,4 @@
--- What `longest` finds: no pair of reads overlaps by more, and where its length is not 0 it names two reads that overlap by so much.
+-- What `longest` finds: no pair of reads overlaps by more, and where anything is shared it names two reads that overlap by so much.
 use Prim.Native.Nat.{ℕ, zero, suc, _+_, _≤_, _<_}
 use native.Mathlib.Omega.{arith}
 use native.Mathlib.Nat.{zero-add, add-zero, add-suc, suc-add}
