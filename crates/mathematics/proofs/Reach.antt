@@ -15,6 +15,7 @@ use Rattle.mathematics.specs.Cover.{Item, vert, arc, oneIf, through}
 use Rattle.mathematics.specs.Exists.{ItemOnPath, ReadOnPath}
 use Rattle.mathematics.specs.Reach.{itemList, someInto, someOut, fromStartIn, toEndIn, fromStart, toEnd, useful}
 use Rattle.mathematics.proofs.Basics.{and-l, and-r, and-in, or-cases, or-l, or-r, all-among, test}
+use Rattle.mathematics.proofs.Parts.{begins-append}
 
 -- ---- linked lists, end to end
 
@@ -319,14 +320,10 @@ module _ {E : Type 0} (G : Graph E) (wf : WellFormed G) where
 
 -- ---- an item or a read on a path
 
-begins-own : (r q : List ℕ) → T (begins r (r ++ q))
-begins-own [] q = tt
-begins-own (x ∷ r) q = and-in (eqb x x) (begins r (r ++ q)) (eqb-refl x) (begins-own r q)
-
 held-between : (u : ℕ) (p r q : List ℕ) → T (holds (u ∷ (p ++ (r ++ q))) (lastOf u p ∷ r))
 held-between u [] r q =
     or-l (begins (u ∷ r) (u ∷ (r ++ q))) (holds (r ++ q) (u ∷ r))
-    (and-in (eqb u u) (begins r (r ++ q)) (eqb-refl u) (begins-own r q))
+    (and-in (eqb u u) (begins r (r ++ q)) (eqb-refl u) (begins-append r q))
 held-between u (v ∷ p) r q =
     or-r (begins (lastOf v p ∷ r) (u ∷ v ∷ (p ++ (r ++ q)))) (holds (v ∷ (p ++ (r ++ q))) (lastOf v p ∷ r)) (held-between v p r q)
 
