@@ -260,8 +260,8 @@ module _ (s : List ℕ) (r : Reads s) where
       seen : (u v : ℕ) → v ≡ u → NodeOk u → (v < nodesOf) × T (liveAt live v)
       seen u v e (h, t) = (omega arith, subst T (sym (L .is v (omega arith) ∙ ap (liveNode s) e)) t)
 
-      -- The working network of a form that reads has the shape that carrying asks for: MATHEMATICS.md 5, "a useful node is reached from the root by edges
-      -- and reaches it", at no more than the opening price and 63 arcs.
+      -- The working network of a form that reads has the shape that carrying asks for: each live node is reached from the root by edges and reaches it,
+      -- at no more than the opening price and 63 arcs.
       pub shape-of-graph : Shape nodesOf (plainSlots s) live from to cost
       shape-of-graph =
           record {

@@ -10,8 +10,7 @@ use lib.ListN.{length, getD, take, drop}
 use Rattle.mathematics.specs.Bound.{readsThrough, Marks}
 use Rattle.mathematics.specs.Cover.{Item, arc}
 use Rattle.mathematics.specs.Reach.{useful}
-use Rattle.mathematics.proofs.Links.{inNode, outNode, linkFrom, linkTo}
-use Rattle.mathematics.proofs.Marked.{sideMark}
+use Rattle.mathematics.specs.Links.{inNode, outNode, linkFrom, linkTo, sideMark}
 use Rattle.forms.specs.GraphForm.{vertexCount, arcCount, openingPrice, arcAt, arcTail, arcHead, arcCost}
 use Rattle.forms.specs.GraphOf.{graphOf}
 use Rattle.forms.specs.GraphReads.{Reads}

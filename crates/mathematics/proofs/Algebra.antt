@@ -7,12 +7,8 @@ use mathlib.Core.List.{List, [], _∷_, _++_}
 use mathlib.Core.Logic.{_⊎_, inl, inr}
 use Rattle.mathematics.specs.Price.{Prices, Le, sub, times, Ordered}
 use Rattle.mathematics.specs.Lists.{All}
+pub use Rattle.mathematics.specs.Price.{sumBy}
 use Rattle.mathematics.proofs.Basics.{test}
-
--- the sum of f over a list
-abbrev pub sumBy : (P : Prices) {A : Type 0} → (A → P .El) → List A → P .El
-sumBy P f [] = P .nil
-sumBy P f (x ∷ xs) = P .add (f x) (sumBy P f xs)
 
 module _ (P : Prices) (L : Ordered P) where
   -- sums: with `L .add-assoc` and `L .add-comm` in the list, `simp` sorts any sum

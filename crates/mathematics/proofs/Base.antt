@@ -1,5 +1,5 @@
--- The links that a lowest-price cover may use, with what they must carry (MATHEMATICS.md section 5): an opening link for each useful start, a closing link
--- for each useful end, and a link for each ask between useful vertices, which must carry its rest. Transport.antt gets them as edges and jobs.
+-- The links that a lowest-price cover may use, with what they must carry, from which strong duality sets out: an opening link for each useful start, a
+-- closing link for each useful end, and a link for each ask between useful vertices, which must carry its rest. Transport.antt gets them as edges and jobs.
 use Prim.Native.Nat.{ℕ, suc, _+_, _*_, _≤_, _<_}
 use native.Mathlib.Omega.{arith}
 use native.Mathlib.Nat.{mul-zero, zero-mul, zero-add, add-zero}
@@ -9,17 +9,18 @@ use mathlib.Core.Bool.{Bool, true, false, cond, _&&_}
 use mathlib.Core.Logic.{_⊎_, inl, inr, _≢_}
 use lib.Dec.{T, eqb, eqb→eq, eqb-refl}
 use lib.ListN.{length, getD, length-append, length-map}
-use Rattle.mathematics.specs.Lists.{All, Distinct, lastOf}
+use Rattle.mathematics.specs.Lists.{All, Distinct, lastOf, sumOver}
 use Rattle.mathematics.specs.Graph.{Vertex, Arc, Graph, noVertex, isStart, isEnd, WellFormed}
 use Rattle.mathematics.specs.Cover.{Item, vert, arc, sameItem, oneIf, Ask, vertexAsks, arcAsk, asks}
 use Rattle.mathematics.specs.Bound.{rest}
 use Rattle.mathematics.specs.Range.{OneOf, startCount, endCount, sumOfDemands}
 use Rattle.mathematics.specs.Reach.{useful}
+use Rattle.mathematics.specs.Links.{Link, opening, closing, inside, across, reading, passes, opens}
 use Rattle.mathematics.proofs.Basics.{and-l, and-r, and-in, all-among, all-append, all-map, all-weaken, among-map, among-left, among-right, is-true, is-false, test}
 use Rattle.mathematics.proofs.Reach.{joining-arc, start-below, end-below}
 use Rattle.mathematics.proofs.Items.{Known, asks-known}
-use Rattle.mathematics.proofs.Loads.{unequal, Load, sumOver, worth, one, passing, worth-append, length-parts, all-passing, all-pass}
-use Rattle.mathematics.proofs.Links.{Link, opening, closing, inside, across, reading, passes, opens, OfGraph}
+use Rattle.mathematics.proofs.Loads.{unequal, Load, worth, one, passing, worth-append, length-parts, all-passing, all-pass}
+use Rattle.mathematics.proofs.Links.{OfGraph}
 
 -- the link of an item
 abbrev pub linkOf : Item → Link

@@ -1,4 +1,4 @@
--- From a flow to weighted paths (MATHEMATICS.md section 6): loads on the links of a graph that balance, together with one unit for each read, are
+-- From a flow to weighted paths, the last step of strong duality: loads on the links of a graph that balance, together with one unit for each read, are
 -- the sum of weighted paths from starts to ends, no more of them than there are loads and reads, which hold every read.
 use Prim.Native.Nat.{ℕ, zero, suc, _+_, _*_, _≤_}
 use native.Mathlib.Omega.{arith}
@@ -9,17 +9,18 @@ use mathlib.Core.Bool.{Bool, true, false}
 use mathlib.Core.Logic.{inl, inr}
 use lib.Dec.{T}
 use lib.ListN.{length, length-append, length-map}
-use Rattle.mathematics.specs.Lists.{All, someHolds}
+use Rattle.mathematics.specs.Lists.{All, someHolds, sumOver}
 use Rattle.mathematics.specs.Graph.{Graph, isPath, Rises}
 use Rattle.mathematics.specs.Cover.{Item, oneIf, through, Weighted, total, totalWeight, paths}
 use Rattle.mathematics.specs.Bound.{readsThrough}
 use Rattle.mathematics.specs.Range.{OneOf}
+use Rattle.mathematics.specs.Links.{Link, opening, closing, inside, across, reading, inNode, linkFrom, linkTo, passes, opens, pathOf, AtEnds}
 use Rattle.mathematics.proofs.Basics.{all-from, all-append, all-map, all-weaken, is-true, among-map, among-right}
 use Rattle.mathematics.proofs.Merge.{samePath, same-path-equal, same-path-self}
 use Rattle.mathematics.proofs.Parts.{held-some}
-use Rattle.mathematics.proofs.Loads.{Load, sumOver, worth, one, worth-append, worth-same}
+use Rattle.mathematics.proofs.Loads.{Load, worth, one, worth-append, worth-same}
 use Rattle.mathematics.proofs.Sweep.{Rising, Balanced, Split, split}
-use Rattle.mathematics.proofs.Links.{Link, opening, closing, inside, across, reading, inNode, linkFrom, linkTo, passes, opens, pathOf, reading-within, OfGraph, Used, Leads, AtEnds, IsWhole, whole-walk, link-rises}
+use Rattle.mathematics.proofs.Links.{reading-within, OfGraph, Used, Leads, IsWhole, whole-walk, link-rises}
 
 -- one unit of a read, of each read
 abbrev pub readLoad : List ℕ → Load Link

@@ -8,11 +8,10 @@ use mathlib.Core.Bool.{Bool, true, false, cond, _&&_, _||_}
 use mathlib.Core.Logic.{_⊎_, inl, inr}
 use lib.Dec.{T, ltb, lt→ltb, ltb→lt}
 use lib.ListN.{length, length-append}
-use Rattle.mathematics.specs.Lists.{All, holds, someHolds}
+use Rattle.mathematics.specs.Lists.{All, holds, someHolds, Pairwise}
 use Rattle.mathematics.specs.Range.{OneOf}
 use Rattle.mathematics.specs.Prepare.{someLonger, dropParts}
 use Rattle.mathematics.proofs.Basics.{and-l, and-r, and-in, or-cases, or-l, or-r, all-among, all-weaken, among-left, among-right, among-cases}
-use Rattle.mathematics.proofs.WithReads.{Pairwise}
 use Rattle.mathematics.proofs.Parts.{Within, Held, within-holds, holds-within, some-held, held-some, held-trans, within-self}
 use Rattle.mathematics.proofs.Overlap.{Clear}
 use Rattle.mathematics.proofs.Taken.{all-both}

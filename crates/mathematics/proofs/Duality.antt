@@ -11,25 +11,26 @@ use lib.Dec.{T}
 use lib.ListN.{length, length-map}
 use Rattle.mathematics.specs.Price.{Prices, Ordered, Le}
 use Rattle.mathematics.specs.Lists.{All, someHolds}
-use Rattle.mathematics.specs.Graph.{Graph, isPath, linked, WellFormed}
-use Rattle.mathematics.specs.Cover.{Item, vert, arc, sameItem, oneIf, Ask, asks, Weighted, total, totalWeight, paths, IsCover, price}
+use Rattle.mathematics.specs.Graph.{Graph, isPath, linked, WellFormed, withReads}
+use Rattle.mathematics.specs.Cover.{Item, vert, arc, sameItem, oneIf, Ask, asks, total, totalWeight, paths, IsCover, price}
 use Rattle.mathematics.specs.Prepare.{prepare}
-use Rattle.mathematics.specs.Bound.{Marks, startSlack, endSlack, SlacksHold, boundWith, bound}
+use Rattle.mathematics.specs.Bound.{Marks, startSlack, endSlack, SlacksHold, boundWith, bound, itemSlack}
 use Rattle.mathematics.specs.Exists.{Coverable}
-use Rattle.mathematics.specs.Range.{OneOf, startCount, endCount, sumOfDemands, pathLimit, weightLimit, MarkWithin, CostsHold}
+use Rattle.mathematics.specs.Range.{OneOf, startCount, endCount, sumOfDemands, MarkWithin, CostsHold}
+use Rattle.mathematics.specs.Links.{Link, opening, closing, inside, across, reading, inNode, outNode, passes, opens, AtEnds}
+pub use Rattle.mathematics.specs.Range.{Best}
 use Rattle.mathematics.proofs.Basics.{all-among, all-from, all-map, all-unmap, all-weaken}
 use Rattle.mathematics.proofs.Merge.{merge, merge-total, merge-weight, merge-length, merge-weights, merge-all, merge-distinct, merge-holds}
 use Rattle.mathematics.proofs.Existence.{held-by-some}
-use Rattle.mathematics.proofs.WithReads.{withReads, path-with-reads}
+use Rattle.mathematics.proofs.WithReads.{path-with-reads}
 use Rattle.mathematics.proofs.Prepared.{prepared-linked, prepared-fewer, prepared-cover-is-cover}
-use Rattle.mathematics.proofs.Telescope.{itemSlack}
 use Rattle.mathematics.proofs.Totals.{owed}
 use Rattle.mathematics.proofs.LowerBound.{EndsMeet, bound-met}
 use Rattle.mathematics.proofs.Network
 use Rattle.mathematics.proofs.Network.{slack, leaving}
 use Rattle.mathematics.proofs.Transport.{Transport, transport}
 use Rattle.mathematics.proofs.Loads.{Load, worth, one, worth-append}
-use Rattle.mathematics.proofs.Links.{Link, opening, closing, inside, across, reading, inNode, outNode, passes, opens, OfGraph, Used, AtEnds}
+use Rattle.mathematics.proofs.Links.{OfGraph, Used}
 use Rattle.mathematics.proofs.Decompose
 use Rattle.mathematics.proofs.Decompose.{readLoads, worth-some, Decomposed, decompose}
 use Rattle.mathematics.proofs.Base.{same-item, usefulItem, base, base-short, base-opens, base-amount, base-passes, Useful, Unasked, OfBase, base-of-graph, has-opening, has-closing}
@@ -40,18 +41,6 @@ use Rattle.mathematics.proofs.Filled.{Filling, asMust, asAdded, asFull,
 use Rattle.mathematics.proofs.Lying.{idle-asks, prepared-useful}
 
 module _ (P : Prices) (G : Graph (P .El)) where
-  -- A cover and marks that show its price to be lowest, within the limits.
-  pub record Best : Type 0 where
-    pub cover : List Weighted
-    pub marks : Marks (P .El)
-    pub is-cover : IsCover G cover
-    pub slacks-hold : SlacksHold P G marks
-    pub price-is-bound : price P G cover ≡ bound P G marks
-    pub few-paths : length cover ≤ pathLimit G
-    pub few-copies : totalWeight cover ≤ weightLimit G
-    pub marks-within : (v : ℕ) → v < length (G .vertices) →
-        MarkWithin P G (2 * length (G .vertices)) (marks .into v) × MarkWithin P G (2 * length (G .vertices)) (marks .out v)
-
   -- What a transport for the reads rs leaves: what the links carry, and marks of the nodes.
   record Carried (rs : List (List ℕ)) : Type 0 where
     fillings : List Filling

@@ -1,5 +1,5 @@
 -- Cases D, L and X of document 01, "Numbers to hold against the definitions", at the level of graphs and covers: that the covers named there are covers, at
--- those prices, and that no cover is cheaper; and that the wrong turns document 01 names lead to no cover.
+-- those prices, and that no cover is cheaper; and that the wrong turns document 01 names lead to no cover, or to a dearer one.
 use Prim.Native.Nat.{ℕ, zero, suc, _+_, _≤_}
 use mathlib.Core.Path.{_≡_, refl}
 use mathlib.Core.List.{List, [], _∷_, map, head-eq-of-cons-eq, tail-eq-of-cons-eq}
@@ -10,12 +10,12 @@ use lib.Dec.{T}
 use lib.IntN.{ℤ, pos, negsuc}
 use Rattle.mathematics.specs.Price.{whole}
 use Rattle.mathematics.specs.Lists.{holds}
-use Rattle.mathematics.specs.Graph.{Vertex, Arc, Graph, WellFormed}
+use Rattle.mathematics.specs.Graph.{Vertex, Arc, Graph, WellFormed, withReads}
 use Rattle.mathematics.specs.Cover.{Weighted, IsCover, price, IsLowest}
 use Rattle.mathematics.specs.Prepare.{prepare, overlap, longest, joinAt}
-use Rattle.mathematics.specs.Bound.{Marks, SlacksHold, bound}
+use Rattle.mathematics.specs.Bound.{Marks, SlacksHold, bound, Shows}
 use Rattle.mathematics.proofs.PriceKinds.{whole-ordered}
-use Rattle.mathematics.proofs.Lowest.{Shows, shown-is-lowest}
+use Rattle.mathematics.proofs.Lowest.{shown-is-lowest}
 
 abbrev vertex : Bool → Bool → Vertex
 vertex s e = record { start = s; end = e; demand = 1 }
@@ -165,10 +165,59 @@ L-price = refl
 pub L-lowest : IsLowest whole L L-cover
 L-lowest = shown-is-lowest whole whole-ordered L L-formed L-marks L-cover L-covers L-shown
 
--- "Merging reads in file order. In L, joining 0 1 2 with 2 4 first leads to 26." The longest overlap is joined first instead.
+-- the longest overlap is joined first: 0 1 2 with 1 2 3
 pub L-prepared : prepare (L .reads) ≡ (0 ∷ 1 ∷ 2 ∷ 3 ∷ []) ∷ (2 ∷ 4 ∷ []) ∷ []
 unfolding prepare longest joinAt overlap
 L-prepared = refl
+
+-- ---- "Merging reads in file order. In L, joining 0 1 2 with 2 4 first leads to 26."
+
+-- L with the reads that are left when the first pair that overlaps, by one vertex, is joined
+abbrev pub M : Graph ℤ
+M = withReads L (joinAt (record { shared = 1; i = 0; j = 1 }) (L .reads))
+
+pub M-reads : M .reads ≡ (0 ∷ 1 ∷ 2 ∷ 4 ∷ []) ∷ (1 ∷ 2 ∷ 3 ∷ []) ∷ []
+unfolding joinAt
+M-reads = refl
+
+abbrev pub M-cover : List Weighted
+M-cover = once (0 ∷ 1 ∷ 2 ∷ 3 ∷ []) ∷ once (0 ∷ 1 ∷ 2 ∷ 4 ∷ []) ∷ []
+
+M-marks : Marks ℤ
+M-marks =
+    record {
+      into = markAt (pos 10 ∷ pos 11 ∷ pos 10 ∷ pos 0 ∷ pos 0 ∷ []);
+      out = markAt (pos 10 ∷ pos 9 ∷ pos 0 ∷ pos 0 ∷ pos 0 ∷ []);
+    }
+
+M-formed : WellFormed M
+unfolding joinAt
+M-formed = record { rises = L-formed .rises; once = L-formed .once; reads-linked = ((omega arith, tt), ((omega arith, tt), tt)) }
+
+M-covers : IsCover M M-cover
+unfolding joinAt
+M-covers =
+    record {
+      are-paths = (tt, (tt, tt));
+      weights = (omega arith, (omega arith, tt));
+      distinct = ((λ e. differ-first 3 4 [] [] (λ d. omega arith) (tail-eq-of-cons-eq (tail-eq-of-cons-eq (tail-eq-of-cons-eq e))), tt), (tt, tt));
+      demands-met = (
+        omega arith,
+        (omega arith, (omega arith, (omega arith, (omega arith, (omega arith, (omega arith, (omega arith, (omega arith, tt)))))))),
+      );
+      reads-met = (tt, (tt, tt));
+    }
+
+M-shown : Shows whole M M-marks M-cover
+unfolding M-marks bound prepare longest joinAt overlap
+M-shown = (record { vertices-hold = (tt, (tt, (tt, (tt, (tt, tt))))); arcs-hold = (tt, (tt, (tt, (tt, tt)))) }, refl)
+
+-- "leads to 26", against 24 for L
+pub M-price : price whole M M-cover ≡ pos 26
+M-price = refl
+
+pub M-lowest : IsLowest whole M M-cover
+M-lowest = shown-is-lowest whole whole-ordered M M-formed M-marks M-cover M-covers M-shown
 
 -- "X: starts 0 and 1, ends 3 and 4, arcs 0-2, 1-2, 2-3, 2-4 at cost 1, demands as in L, opening 10, reads 0 2 3 and 1 2 4"
 abbrev pub X : Graph ℤ

@@ -7,15 +7,15 @@ use mathlib.Core.List.{List, [], _∷_, _++_, append-nil, append-assoc}
 use mathlib.Core.Logic.{_⊎_, inl, inr}
 use lib.Dec.{T}
 use lib.ListN.{length}
-use Rattle.mathematics.specs.Lists.{All, holds, someHolds}
+use Rattle.mathematics.specs.Lists.{All, holds, someHolds, Pairwise, Rising}
 use Rattle.mathematics.specs.Range.{OneOf}
-use Rattle.mathematics.specs.Graph.{Graph, WellFormed, isPath}
+use Rattle.mathematics.specs.Graph.{Graph, WellFormed, isPath, withReads}
 use Rattle.mathematics.specs.Cover.{Item, Ask, Weighted, IsCover, asks, through, total, totalWeight, paths}
 use Rattle.mathematics.proofs.Basics.{all-from, all-among, all-weaken, among-map}
 use Rattle.mathematics.proofs.Merge.{merge, merge-total, merge-weight, merge-weights, merge-all, merge-distinct, merge-holds, some-holds}
 use Rattle.mathematics.proofs.Existence.{held-by-some}
-use Rattle.mathematics.proofs.WithReads.{withReads, Pairwise, Met, path-with-reads, cover-with-reads, cover-paths}
-use Rattle.mathematics.proofs.Parts.{Within, within-holds, holds-within, within-trans, regroup, Parts, parts, Rising, one-place}
+use Rattle.mathematics.proofs.WithReads.{Met, path-with-reads, cover-with-reads, cover-paths}
+use Rattle.mathematics.proofs.Parts.{Within, within-holds, holds-within, within-trans, regroup, Parts, parts, one-place}
 use Rattle.mathematics.proofs.Overlap.{Clear, clear-swap, none-across-left, none-across-right}
 use Rattle.mathematics.proofs.Taken.{Taken, here, there, taken-all, put-all, take-one, taken-cases}
 use Rattle.mathematics.proofs.Longest.{AtMost}

@@ -3,16 +3,17 @@
 use Prim.Native.Nat.{ℕ, zero, suc, _+_, _*_, _≤_}
 use native.Mathlib.Omega.{arith}
 use native.Mathlib.Nat.{mul-zero, le-mul-of-pos-right}
-use mathlib.Core.Path.{_≡_, refl}
+use mathlib.Core.Path.{_≡_, refl, sym, subst}
 use mathlib.Core.List.{List, [], _∷_, _++_, map}
 use mathlib.Core.Bool.{Bool, true, _||_}
 use mathlib.Core.Logic.{inl, inr, _↔_}
 use lib.Dec.{T, eqb, eqb→eq}
 use lib.ListN.{length}
+use Rattle.mathematics.specs.Price.{Prices}
 use Rattle.mathematics.specs.Lists.{All, holds, someHolds, lastOf}
 use Rattle.mathematics.specs.Range.{OneOf}
 use Rattle.mathematics.specs.Graph.{Vertex, Graph, WellFormed, hasArc, linked, isPath}
-use Rattle.mathematics.specs.Cover.{Item, vert, arc, Ask, Weighted, through, total, paths, vertexAsks, arcAsk, asks, IsCover}
+use Rattle.mathematics.specs.Cover.{Item, vert, arc, Ask, Weighted, through, total, paths, vertexAsks, arcAsk, asks, IsCover, price}
 use Rattle.mathematics.specs.Exists.{ItemOnPath, ReadOnPath, Coverable}
 use Rattle.mathematics.specs.Reach.{itemList, fromStart, toEnd, readLies, itemLies, every, askLies, coverable-test}
 use Rattle.mathematics.proofs.Basics.{and-l, and-r, and-in, or-cases, or-r, all-among, all-from, all-weaken, all-append, all-map, among-right}
@@ -77,7 +78,7 @@ module _ {E : Type 0} (G : Graph E) where
       let r = f (omega arith) in
       (r .0, λ h. (r .1, r .2))
 
-  -- "one path for each asking item, its demand as the weight"
+  -- a path for each asking item, with its demand as the weight
   itemPaths : (needs : List Ask) → All (λ a. 1 ≤ a .demand → ItemOnPath G (a .item)) needs → List Weighted
   itemPaths [] h = []
   itemPaths (a ∷ needs) h = record { weight = a .demand; path = itemPath (a .demand) (a .item) (h .0) .0 } ∷ itemPaths needs (h .1)
@@ -145,6 +146,19 @@ module _ {E : Type 0} (G : Graph E) where
               (read-paths-hold (G .reads) (c .reads-lie));
         },
       )
+
+-- "If nothing is asked for, the empty set is a cover of price 0." Nothing: "Demand 0 asks for nothing", and there is no read.
+pub nothing-asked : (P : Prices) (G : Graph (P .El)) → All (λ a. a .demand ≡ 0) (asks G) → G .reads ≡ [] → IsCover G [] × (price P G [] ≡ P .nil)
+nothing-asked P G idle none = (
+  record {
+    are-paths = tt;
+    weights = tt;
+    distinct = tt;
+    demands-met = all-weaken (λ a. a .demand ≡ 0) (λ a. a .demand ≤ 0) (asks G) (λ a e. omega arith) idle;
+    reads-met = subst (All (λ r. T (someHolds [] r))) (sym none) tt;
+  },
+  refl,
+)
 
 -- ---- the test decides it
 

@@ -11,11 +11,11 @@ use lib.ListN.{length}
 use Rattle.mathematics.specs.Price.{Prices}
 use Rattle.mathematics.specs.Graph.{Graph}
 use Rattle.mathematics.specs.Cover.{oneIf}
+use Rattle.mathematics.specs.Links.{Link, opening, closing, inside, across, reading, inNode, linkFrom, linkTo, opens}
 use Rattle.mathematics.proofs.Basics.{is-true, is-false, test}
 use Rattle.mathematics.proofs.Network
 use Rattle.mathematics.proofs.Network.{Edge, share, share-same, share-other, leaving, entering, edgesOf, jobsFrom, jobsTo, jobsTotal}
 use Rattle.mathematics.proofs.Loads.{Load, worth, one, worth-append}
-use Rattle.mathematics.proofs.Links.{Link, opening, closing, inside, across, reading, inNode, linkFrom, linkTo, opens}
 use Rattle.mathematics.proofs.Decompose.{readLoads, AllBalanced}
 use Rattle.mathematics.proofs.Wired.{edgeOf, loadEdge, jobOf}
 

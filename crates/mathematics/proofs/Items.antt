@@ -8,14 +8,14 @@ use mathlib.Core.Bool.{Bool, true, false, cond}
 use mathlib.Core.Logic.{_⊎_, inl, inr, _≢_}
 use lib.Dec.{T, eqb, eqb→eq, eqb-refl}
 use lib.ListN.{length}
-use Rattle.mathematics.specs.Price.{Prices, Ordered, times}
+use Rattle.mathematics.specs.Price.{Prices, Ordered, times, sumBy}
 use Rattle.mathematics.specs.Lists.{All, Distinct}
 use Rattle.mathematics.specs.Graph.{Vertex, Arc, Graph, isPath, joins, hasArc, linked, Rises, WellFormed}
 use Rattle.mathematics.specs.Cover.{Item, vert, arc, sameItem, trail, oneIf, countOf, Ask, vertexAsks, arcAsk, asks, costOf}
 use Rattle.mathematics.specs.Range.{OneOf}
 use Rattle.mathematics.proofs.Basics.{and-l, and-r, and-in, or-cases, test, is-true, is-false, all-among, all-append, all-map, all-from, all-weaken}
 use Rattle.mathematics.proofs.Reach.{linked-first, linked-rest, arc-joins, arc-rises, start-below, path-start, path-linked}
-use Rattle.mathematics.proofs.Algebra.{sumBy, nil-add, times-one, times-sum, sum-append, sum-add, sum-nil, sum-equal}
+use Rattle.mathematics.proofs.Algebra.{nil-add, times-one, times-sum, sum-append, sum-add, sum-nil, sum-equal}
 
 -- i is a vertex or an arc of the graph
 abbrev pub Known : {E : Type 0} → Graph E → Item → Type 0

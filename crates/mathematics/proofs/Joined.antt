@@ -9,10 +9,9 @@ use mathlib.Core.Bool.{Bool, true, false, cond}
 use mathlib.Core.Logic.{inl, inr}
 use lib.Dec.{T, eqb, eqb→eq, eqb-refl}
 use lib.ListN.{length, getD, set, drop}
-use Rattle.mathematics.specs.Lists.{All}
+use Rattle.mathematics.specs.Lists.{All, Pairwise}
 use Rattle.mathematics.specs.Prepare.{Meeting, longest, without, joinAt, joinWhile}
 use Rattle.mathematics.proofs.Basics.{all-from, all-among}
-use Rattle.mathematics.proofs.WithReads.{Pairwise}
 use Rattle.mathematics.proofs.Parts.{Within, Held, within-self, within-trans, held-trans, Parts, parts}
 use Rattle.mathematics.proofs.Overlap.{Clear, clear-swap, overlap-meets, drop-length, none-across-left}
 use Rattle.mathematics.proofs.Taken.{Taken, here, there, taken-all, put-all, taken-length, taken-swap, taken-pairwise, put-pairwise}
@@ -93,13 +92,13 @@ pub record Join (rs rs′ : List (List ℕ)) : Type 0 where
 joined-read : (a b x o y : List ℕ) (k : ℕ) → a ≡ x ++ o → b ≡ o ++ y → k ≡ length o → a ++ drop k b ≡ x ++ (o ++ y)
 joined-read a b x o y k e f g = rw (e, f, g, drop-length) (append-assoc x o y)
 
-join-at : (m : Meeting) (rs : List (List ℕ)) → Meets rs m → 1 ≤ m .length → Pairwise (AtMost (m .length)) rs → Join rs (joinAt m rs)
+join-at : (m : Meeting) (rs : List (List ℕ)) → Meets rs m → 1 ≤ m .shared → Pairwise (AtMost (m .shared)) rs → Join rs (joinAt m rs)
 unfolding joinAt
 join-at m rs h p most =
     let a : List ℕ = getD rs (m .i) [] in
     let b : List ℕ = getD rs (m .j) [] in
     let met = overlap-meets a b (omega (arith, h .size)) in
-    let size : m .length ≡ length (met .o) = h .size ∙ sym (met .size) in
+    let size : m .shared ≡ length (met .o) = h .size ∙ sym (met .size) in
     record {
       x = met .x;
       o = met .o;
@@ -107,12 +106,12 @@ join-at m rs h p most =
       some-o = omega arith;
       most = subst (λ (n : ℕ). Pairwise (AtMost n) rs) size most;
       replaced = subst₃ (λ (a b z : List ℕ). Replaced a b z rs (joinAt m rs)) (met .ends) (met .begin)
-          (joined-read a b (met .x) (met .o) (met .y) (m .length) (met .ends) (met .begin) size)
-          (replaced-places (m .i) (m .j) rs (a ++ drop (m .length) b) (h .i-below) (h .j-below) (h .differ));
+          (joined-read a b (met .x) (met .o) (met .y) (m .shared) (met .ends) (met .begin) size)
+          (replaced-places (m .i) (m .j) rs (a ++ drop (m .shared) b) (h .i-below) (h .j-below) (h .differ));
     }
 
 -- where a pair overlaps, a turn joins two reads
-pub join : (rs : List (List ℕ)) → (longest rs .length ≡ 0 → ⊥) → Join rs (joinAt (longest rs) rs)
+pub join : (rs : List (List ℕ)) → (longest rs .shared ≡ 0 → ⊥) → Join rs (joinAt (longest rs) rs)
 join rs n =
     elim (longest-meets rs) [
       | inl e ↦ absurd (n e)
@@ -165,7 +164,7 @@ module _ (rs rs′ : List (List ℕ)) (j : Join rs rs′) where
       go (inr (inl w)) = r .1 w
       go (inr (inr (before, after, u, w, e, f, g, p, q))) = none-across-left (j .x) (j .o) k [] u before after f p e l (most .0)
 
-  -- "still none within another"
+  -- after the join, too, no read stands in another
   pub join-clear : Pairwise Clear rs → Pairwise Clear rs′
   join-clear h =
       let (lr, ls, rs₁, others) = join-old Clear clear-swap h in
@@ -188,7 +187,7 @@ pick-while : (Q : List (List ℕ) → Type 0) (t : Bool) (rs joined : List (List
 pick-while Q true rs joined h f = h tt
 pick-while Q false rs joined h f = f (λ n. n)
 
-none-longest : (rs : List (List ℕ)) → (T (eqb (longest rs .length) 0) → ⊥) → longest rs .length ≡ 0 → ⊥
+none-longest : (rs : List (List ℕ)) → (T (eqb (longest rs .shared) 0) → ⊥) → longest rs .shared ≡ 0 → ⊥
 none-longest rs n e = n (subst (λ (k : ℕ). T (eqb k 0)) (sym e) (eqb-refl 0))
 
 -- what holds of the reads and stays with each join holds at the end
@@ -196,7 +195,7 @@ pub while-keeps : (Q : List (List ℕ) → Type 0) → ((rs rs′ : List (List �
     Q rs → Q (joinWhile turns rs)
 while-keeps Q step zero rs h = h
 while-keeps Q step (suc turns) rs h =
-    pick-while Q (eqb (longest rs .length) 0) rs (joinWhile turns (joinAt (longest rs) rs))
+    pick-while Q (eqb (longest rs .shared) 0) rs (joinWhile turns (joinAt (longest rs) rs))
     (λ t. h)
     (λ n. while-keeps Q step turns (joinAt (longest rs) rs) (step rs (joinAt (longest rs) rs) (join rs (none-longest rs n)) h))
 
@@ -205,6 +204,6 @@ pub while-ends : (turns : ℕ) (rs : List (List ℕ)) → length rs ≤ turns �
 while-ends zero [] l = tt
 while-ends zero (r ∷ rs) l = absurd (omega arith)
 while-ends (suc turns) rs l =
-    pick-while (Pairwise (AtMost 0)) (eqb (longest rs .length) 0) rs (joinWhile turns (joinAt (longest rs) rs))
-    (λ t. subst (λ (n : ℕ). Pairwise (AtMost n) rs) (eqb→eq (longest rs .length) 0 t) (longest-most rs))
+    pick-while (Pairwise (AtMost 0)) (eqb (longest rs .shared) 0) rs (joinWhile turns (joinAt (longest rs) rs))
+    (λ t. subst (λ (n : ℕ). Pairwise (AtMost n) rs) (eqb→eq (longest rs .shared) 0 t) (longest-most rs))
     (λ n. while-ends turns (joinAt (longest rs) rs) (omega (arith, join-fewer rs (joinAt (longest rs) rs) (join rs (none-longest rs n)))))

@@ -11,10 +11,10 @@ pub mod Grow
 pub mod Push
 pub mod Transport
 pub mod Merge
+pub mod Parts
 pub mod Reach
 pub mod Existence
 pub mod WithReads
-pub mod Parts
 pub mod Overlap
 pub mod Taken
 pub mod Dropped

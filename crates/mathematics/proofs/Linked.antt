@@ -6,12 +6,12 @@ use mathlib.Core.List.{List, [], _∷_, _++_}
 use mathlib.Core.Bool.{true}
 use lib.Dec.{T}
 use lib.ListN.{length}
-use Rattle.mathematics.specs.Lists.{All, lastOf}
+use Rattle.mathematics.specs.Lists.{All, lastOf, Rising}
 use Rattle.mathematics.specs.Graph.{Arc, Graph, Rises, WellFormed, isStart, isEnd, hasArc, linked, isPath}
 use Rattle.mathematics.specs.Cover.{Item, through}
 use Rattle.mathematics.proofs.Basics.{and-in, all-weaken}
 use Rattle.mathematics.proofs.Reach.{last-append, linked-first, linked-rest, arc-rises, path-start, path-linked, path-end, path-from-parts}
-use Rattle.mathematics.proofs.Parts.{Rising, Within}
+use Rattle.mathematics.proofs.Parts.{Within}
 
 -- the first of the list, or v where it is empty
 abbrev firstOf : ℕ → List ℕ → ℕ

@@ -1,81 +1,20 @@
--- The network of a graph as links between nodes, and what a walk from the root to the finish is: a path from a start to an end. Each vertex v has two
--- nodes, 2v + 1 (its in side) and 2v + 2 (its out side); the root is 0 and the finish 2n + 1. Sweep.antt makes such walks, Decompose.antt uses them.
-use Prim.Native.Nat.{ℕ, _+_, _*_, _≤_, _<_}
+-- What a walk from the root to the finish of a graph's network is: a path from a start to an end. Sweep.antt makes such walks, Decompose.antt uses them.
+use Prim.Native.Nat.{ℕ, _+_, _≤_, _<_}
 use native.Mathlib.Omega.{arith}
 use mathlib.Core.Path.{_≡_, refl, sym, ap, subst, _∙_}
 use mathlib.Core.List.{List, [], _∷_, _++_, append-assoc}
 use mathlib.Core.Logic.{inl, inr}
 use lib.Dec.{T}
-use lib.ListN.{length, getD}
-use Rattle.mathematics.specs.Lists.{All, lastOf}
+use lib.ListN.{length}
+use Rattle.mathematics.specs.Lists.{All, lastOf, sumOver}
 use Rattle.mathematics.specs.Graph.{Graph, isStart, isEnd, isPath, hasArc, linked, Rises}
 use Rattle.mathematics.specs.Cover.{Item, vert, arc, trail, countOf, through}
 use Rattle.mathematics.specs.Range.{OneOf}
+pub use Rattle.mathematics.specs.Links.{Link, opening, closing, inside, across, reading, inNode, outNode, linkFrom, linkTo, linkVertices, passes, opens, pathOf, AtEnds}
 use Rattle.mathematics.proofs.Basics.{and-in}
 use Rattle.mathematics.proofs.Parts.{Within}
 use Rattle.mathematics.proofs.Reach.{last-append, linked-first, linked-rest, linked-append, arc-rises, start-below, end-below, path-from-parts}
-use Rattle.mathematics.proofs.Loads.{sumOver}
 use Rattle.mathematics.proofs.Sweep.{Chain}
-
--- root → in side of a start; out side of an end → finish; in side → out side of a vertex; out side of u → in side of v for an arc;
--- in side of a read's first vertex → out side of its last
-pub data Link : Type 0 where
-  opening : ℕ → Link
-  closing : ℕ → Link
-  inside : ℕ → Link
-  across : ℕ → ℕ → Link
-  reading : List ℕ → Link
-
-abbrev pub inNode : ℕ → ℕ
-inNode v = 2 * v + 1
-
-abbrev pub outNode : ℕ → ℕ
-outNode v = 2 * v + 2
-
-abbrev pub linkFrom : Link → ℕ
-linkFrom (opening v) = 0
-linkFrom (closing v) = outNode v
-linkFrom (inside v) = inNode v
-linkFrom (across u v) = outNode u
-linkFrom (reading r) = inNode (getD r 0 0)
-
--- with z for the node that closing links lead to
-abbrev pub linkTo : ℕ → Link → ℕ
-linkTo z (opening v) = inNode v
-linkTo z (closing v) = z
-linkTo z (inside v) = outNode v
-linkTo z (across u v) = inNode v
-linkTo z (reading r) = outNode (lastOf 0 r)
-
--- the vertices, the items on a link
-abbrev pub linkVertices : Link → List ℕ
-linkVertices (opening v) = []
-linkVertices (closing v) = []
-linkVertices (inside v) = v ∷ []
-linkVertices (across u v) = []
-linkVertices (reading r) = r
-
-abbrev pub linkItems : Link → List Item
-linkItems (opening v) = []
-linkItems (closing v) = []
-linkItems (inside v) = vert v ∷ []
-linkItems (across u v) = arc u v ∷ []
-linkItems (reading r) = trail r
-
--- how often the item stands on the link
-abbrev pub passes : Item → Link → ℕ
-passes i l = countOf i (linkItems l)
-
-abbrev pub opens : Link → ℕ
-opens (opening v) = 1
-opens (closing v) = 0
-opens (inside v) = 0
-opens (across u v) = 0
-opens (reading r) = 0
-
-abbrev pub pathOf : List Link → List ℕ
-pathOf [] = []
-pathOf (l ∷ ls) = linkVertices l ++ pathOf ls
 
 -- a read on a walk lies in the walk's path
 pub reading-within : (r : List ℕ) (ls : List Link) → OneOf ls (reading r) → Within r (pathOf ls)
@@ -119,11 +58,6 @@ module _ (Opens Closes : ℕ → Type 0) where
   Used (inside v) = Unit {0}
   Used (across u v) = Unit {0}
   Used (reading r) = Unit {0}
-
-  -- the path begins and ends as the used links do
-  abbrev pub AtEnds : List ℕ → Type 0
-  AtEnds [] = ⊥
-  AtEnds (v ∷ p) = Opens v × Closes (lastOf v p)
 
 module _ {E : Type 0} (G : Graph E) (Opens Closes : ℕ → Type 0) where
   abbrev pub Leads : ℕ → List Link → Type 0

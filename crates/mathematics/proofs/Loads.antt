@@ -10,6 +10,7 @@ use native.Mathlib.Omega.{arith}
 use lib.Dec.{T, eqb, eqb-refl, ltb, nltb→le}
 use lib.ListN.{length}
 use Rattle.mathematics.specs.Lists.{All}
+pub use Rattle.mathematics.specs.Lists.{sumOver}
 
 -- numbers that a test tells apart differ
 pub unequal : (m n : ℕ) → (T (eqb m n) → ⊥) → m ≢ n
@@ -19,11 +20,6 @@ unequal m n h e = h (subst (λ (k : ℕ). T (eqb m k)) e (eqb-refl m))
 pub record Load (A : Type 0) : Type 0 where
   pub amount : ℕ
   pub what : A
-
--- the sum of f over a list
-abbrev pub sumOver : {A : Type 0} → (A → ℕ) → List A → ℕ
-sumOver f [] = 0
-sumOver f (x ∷ xs) = f x + sumOver f xs
 
 pub sumOver-append : {A : Type 0} (f : A → ℕ) (xs ys : List A) → sumOver f (xs ++ ys) ≡ sumOver f xs + sumOver f ys
 sumOver-append f [] ys = omega arith

@@ -6,21 +6,20 @@ use mathlib.Core.List.{List, [], _∷_}
 use mathlib.Core.Logic.{_⊎_, inl, inr}
 use lib.Dec.{T}
 use lib.ListN.{length}
-use Rattle.mathematics.specs.Price.{Prices, Le, times, Ordered}
+use Rattle.mathematics.specs.Price.{Prices, Le, times, Ordered, sumBy}
 use Rattle.mathematics.specs.Lists.{All, lastOf}
 use Rattle.mathematics.specs.Graph.{Graph, isPath, linked, WellFormed}
 use Rattle.mathematics.specs.Cover.{Item, Ask, asks, Weighted, total, IsCover, price}
-use Rattle.mathematics.specs.Bound.{readsThrough, Marks, startSlack, endSlack, SlacksHold, boundWith, bound}
+use Rattle.mathematics.specs.Bound.{readsThrough, Marks, startSlack, endSlack, SlacksHold, boundWith, bound, itemSlack, slacksAtEnds}
 use Rattle.mathematics.specs.Prepare.{prepare}
 use Rattle.mathematics.specs.Range.{OneOf}
 use Rattle.mathematics.proofs.Basics.{all-among, all-from, all-weaken}
 use Rattle.mathematics.proofs.Algebra
-use Rattle.mathematics.proofs.Algebra.{sumBy}
 use Rattle.mathematics.proofs.Reach.{path-start, path-end}
 use Rattle.mathematics.proofs.Prepared.{prepared-independent, prepared-linked, cover-can-hold-prepared}
 use Rattle.mathematics.proofs.Room.{room-for-reads}
 use Rattle.mathematics.proofs.Items.{asks-known}
-use Rattle.mathematics.proofs.Telescope.{itemSlack, slacksAtEnds, start-slack-holds, end-slack-holds, item-slack-holds}
+use Rattle.mathematics.proofs.Telescope.{start-slack-holds, end-slack-holds, item-slack-holds}
 use Rattle.mathematics.proofs.Totals.{owed, countedSum, price-from-slacks, bound-from-slacks}
 
 -- the start slack of the path's first vertex and the end slack of its last are nothing

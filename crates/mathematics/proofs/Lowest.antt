@@ -6,15 +6,12 @@ use mathlib.Core.Logic.{_↔_}
 use Rattle.mathematics.specs.Price.{Prices, Le, Ordered}
 use Rattle.mathematics.specs.Graph.{Graph, WellFormed}
 use Rattle.mathematics.specs.Cover.{Weighted, IsCover, price, IsLowest}
-use Rattle.mathematics.specs.Bound.{Marks, SlacksHold, bound}
+use Rattle.mathematics.specs.Bound.{Marks}
 use Rattle.mathematics.specs.Range.{CostsHold}
+pub use Rattle.mathematics.specs.Bound.{Shows}
 use Rattle.mathematics.proofs.LowerBound.{bound-below-cover}
 use Rattle.mathematics.proofs.Existence.{cover-shows-coverable}
 use Rattle.mathematics.proofs.Duality.{strong-duality}
-
--- the marks show that W costs no more than it must
-abbrev pub Shows : (P : Prices) → Graph (P .El) → Marks (P .El) → List Weighted → Type 0
-Shows P G m W = SlacksHold P G m × (bound P G m ≡ price P G W)
 
 module _ (P : Prices) (L : Ordered P) (G : Graph (P .El)) where
   -- two covers of lowest price have the same price

@@ -13,11 +13,12 @@ use Rattle.mathematics.specs.Prepare.{prepare}
 use Rattle.mathematics.specs.Exists.{ItemOnPath, ReadOnPath, Coverable}
 use Rattle.mathematics.specs.Range.{OneOf}
 use Rattle.mathematics.specs.Reach.{fromStart, toEnd, useful}
+use Rattle.mathematics.specs.Links.{reading}
 use Rattle.mathematics.proofs.Basics.{and-in, all-among, all-from}
 use Rattle.mathematics.proofs.Reach.{arc-rises, linked-first, from-start-along, to-end-along, read-on-path, vertex-on-path, arc-ends-useful}
 use Rattle.mathematics.proofs.Items.{Known, asks-known}
 use Rattle.mathematics.proofs.Prepared.{prepared-linked, prepared-ends, EndsAs}
-use Rattle.mathematics.proofs.Links.{reading, OfGraph}
+use Rattle.mathematics.proofs.Links.{OfGraph}
 use Rattle.mathematics.proofs.Base.{usefulItem, Useful}
 
 module _ {E : Type 0} (G : Graph E) (g : WellFormed G) (c : Coverable G) where

@@ -1,5 +1,5 @@
--- Marks for the vertices from marks for the nodes of the network (MATHEMATICS.md section 5): a useful vertex takes those of its two sides; one that no
--- start reaches takes the greatest, one that a start reaches and that reaches no end the least. Then no slack is below nothing.
+-- Marks for the vertices from marks for the nodes of the network: a useful vertex takes those of its two sides; one that no start reaches takes the
+-- greatest, one that a start reaches and that reaches no end the least. Then no slack is below nothing.
 use Prim.Native.Nat.{ℕ, suc, _+_}
 use native.Mathlib.Omega.{arith}
 use mathlib.Core.Path.{_≡_, refl, sym, ap, ap₂, subst, subst₂, _∙_}
@@ -14,17 +14,14 @@ use Rattle.mathematics.specs.Cover.{costOf}
 use Rattle.mathematics.specs.Bound.{Marks, startSlack, endSlack, vertexSlack, arcSlack, vertexSlacksHold, arcSlackHolds, VertexSlacksHold, SlacksHold}
 use Rattle.mathematics.specs.Range.{OneOf, CostsHold}
 use Rattle.mathematics.specs.Reach.{fromStart, toEnd, useful}
+use Rattle.mathematics.specs.Links.{opening, closing, inside, across, inNode, outNode}
+pub use Rattle.mathematics.specs.Links.{sideMark}
 use Rattle.mathematics.proofs.Basics.{and-l, and-r, and-in, all-among, all-from, is-true, is-false, test}
 use Rattle.mathematics.proofs.Algebra
 use Rattle.mathematics.proofs.Reach.{arc-joins, from-start-arc, to-end-arc, start-from-start, end-to-end}
 use Rattle.mathematics.proofs.Items.{cost-own, joins-own}
 use Rattle.mathematics.proofs.Network.{slack}
-use Rattle.mathematics.proofs.Links.{opening, closing, inside, across, inNode, outNode}
 use Rattle.mathematics.proofs.Wired.{Node, root-node, in-node, out-node, edgeOf}
-
--- the mark of a side: its node's where the vertex is useful, else the least or the greatest
-abbrev pub sideMark : {E F : Type 0} → Graph F → E → E → E → ℕ → E
-sideMark G low high own v = cond (useful G v) own (cond (fromStart G v) low high)
 
 abbrev pub marksOf : {E F : Type 0} → Graph F → (ℕ → E) → E → E → Marks E
 marksOf G p low high = record { into = λ v. sideMark G low high (p (inNode v)) v; out = λ v. sideMark G low high (p (outNode v)) v }

@@ -13,13 +13,14 @@ use Rattle.mathematics.specs.Lists.{All}
 use Rattle.mathematics.specs.Graph.{Arc, Graph, WellFormed}
 use Rattle.mathematics.specs.Cover.{costOf}
 use Rattle.mathematics.specs.Range.{OneOf, Step, climb, MarkWithin}
+use Rattle.mathematics.specs.Links.{Link, opening, closing, inside, across, reading, inNode, linkFrom, linkTo}
 use Rattle.mathematics.proofs.Basics.{all-among, all-append, all-weaken, among-map, test}
 use Rattle.mathematics.proofs.Algebra
 use Rattle.mathematics.proofs.Reach.{joining-arc}
 use Rattle.mathematics.proofs.Items.{cost-own, joins-own}
 use Rattle.mathematics.proofs.Network.{Edge, Way, here, forward, backward}
 use Rattle.mathematics.proofs.Loads.{unequal, passing, all-passing}
-use Rattle.mathematics.proofs.Links.{Link, opening, closing, inside, across, reading, inNode, linkFrom, linkTo, OfGraph}
+use Rattle.mathematics.proofs.Links.{OfGraph}
 use Rattle.mathematics.proofs.Base.{base, base-of-graph, OfBase, among-passing}
 use Rattle.mathematics.proofs.Wired.{live, Node, root-node, linkCost, edgeOf, loadEdge, edges}
 

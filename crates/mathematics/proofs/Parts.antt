@@ -8,6 +8,7 @@ use lib.Dec.{T, eqb, eqb→eq, eqb-refl}
 use lib.ListN.{length}
 use Rattle.mathematics.specs.Lists.{All, begins, holds, someHolds}
 use Rattle.mathematics.specs.Range.{OneOf}
+pub use Rattle.mathematics.specs.Lists.{Rising}
 use Rattle.mathematics.proofs.Basics.{and-l, and-r, and-in, or-cases, or-l, or-r, all-right}
 use Rattle.mathematics.proofs.Merge.{some-holds}
 
@@ -114,11 +115,6 @@ parts k l o r u w e = go (levi l (o ++ r) u (k ++ w) e)
     go (inl (m, f, g)) = inr (inl (m, w, g))
     go (inr ([], f, g)) = inr (inl ([], w, sym g))
     go (inr (x ∷ m, f, g)) = parts-from k l o r u w (x ∷ m) (omega arith) f g
-
--- numbers that rise strictly
-abbrev pub Rising : List ℕ → Type 0
-Rising [] = Unit {0}
-Rising (v ∷ p) = All (λ w. v < w) p × Rising p
 
 rising-right : (l r : List ℕ) → Rising (l ++ r) → Rising r
 rising-right [] r h = h

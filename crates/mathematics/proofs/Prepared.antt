@@ -6,14 +6,14 @@ use mathlib.Core.Path.{_≡_, refl, _∙_}
 use mathlib.Core.List.{List, [], _∷_, _++_, append-assoc}
 use lib.Dec.{T}
 use lib.ListN.{length, getD, length-append, List·getD-append}
-use Rattle.mathematics.specs.Lists.{All, lastOf}
+use Rattle.mathematics.specs.Lists.{All, lastOf, Pairwise}
 use Rattle.mathematics.specs.Range.{OneOf}
-use Rattle.mathematics.specs.Graph.{Arc, Graph, WellFormed, linked}
+use Rattle.mathematics.specs.Graph.{Arc, Graph, WellFormed, linked, withReads}
 use Rattle.mathematics.specs.Cover.{Item, Weighted, IsCover, total, totalWeight, paths}
-use Rattle.mathematics.specs.Prepare.{dropParts, prepare}
+use Rattle.mathematics.specs.Prepare.{dropParts, prepare, Apart, Independent}
 use Rattle.mathematics.proofs.Basics.{all-from, all-among, all-weaken}
 use Rattle.mathematics.proofs.Reach.{last-append}
-use Rattle.mathematics.proofs.WithReads.{withReads, Pairwise, Apart, Independent, Met, cover-with-reads}
+use Rattle.mathematics.proofs.WithReads.{Met, cover-with-reads}
 use Rattle.mathematics.proofs.Parts.{Held, holds-within, some-held, held-some, held-trans}
 use Rattle.mathematics.proofs.Overlap.{Clear}
 use Rattle.mathematics.proofs.Taken.{pairwise-both}

@@ -15,6 +15,7 @@ use Rattle.mathematics.specs.Cover.{Item, vert, arc, oneIf, through}
 use Rattle.mathematics.specs.Exists.{ItemOnPath, ReadOnPath}
 use Rattle.mathematics.specs.Reach.{itemList, someInto, someOut, fromStartIn, toEndIn, fromStart, toEnd, useful}
 use Rattle.mathematics.proofs.Basics.{and-l, and-r, and-in, or-cases, or-l, or-r, all-among, test}
+use Rattle.mathematics.proofs.Parts.{begins-append}
 
 -- ---- linked lists, end to end
 
@@ -319,14 +320,10 @@ module _ {E : Type 0} (G : Graph E) (wf : WellFormed G) where
 
 -- ---- an item or a read on a path
 
-begins-own : (r q : List ℕ) → T (begins r (r ++ q))
-begins-own [] q = tt
-begins-own (x ∷ r) q = and-in (eqb x x) (begins r (r ++ q)) (eqb-refl x) (begins-own r q)
-
 held-between : (u : ℕ) (p r q : List ℕ) → T (holds (u ∷ (p ++ (r ++ q))) (lastOf u p ∷ r))
 held-between u [] r q =
     or-l (begins (u ∷ r) (u ∷ (r ++ q))) (holds (r ++ q) (u ∷ r))
-    (and-in (eqb u u) (begins r (r ++ q)) (eqb-refl u) (begins-own r q))
+    (and-in (eqb u u) (begins r (r ++ q)) (eqb-refl u) (begins-append r q))
 held-between u (v ∷ p) r q =
     or-r (begins (lastOf v p ∷ r) (u ∷ v ∷ (p ++ (r ++ q)))) (holds (v ∷ (p ++ (r ++ q))) (lastOf v p ∷ r)) (held-between v p r q)
 
@@ -458,7 +455,7 @@ module _ {E : Type 0} (G : Graph E) (wf : WellFormed G) where
       held-lies s p v r (path-linked G s p h) (start-from-start G s (path-start G s p h))
       (end-to-end G (lastOf s p) (path-end G s p h)) k
 
-  -- "A read lies on such a path exactly when its first vertex is reached from a start and its last reaches an end."
+  -- A read lies on a path exactly when its first vertex is reached from a start and its last reaches an end.
   pub read-on-path : (v : ℕ) (r : List ℕ) → T (linked (G .arcs) (v ∷ r)) →
       ReadOnPath G (v ∷ r) ↔ (T (fromStart G v) × T (toEnd G (lastOf v r)))
   read-on-path v r l = (λ h. path-lies (h .0) v r (h .1) (h .2), λ h. back (from-start-path G v (h .0)) (to-end-path G (lastOf v r) (h .1)))

@@ -8,16 +8,16 @@ use mathlib.Core.Bool.{Bool, true, false, cond, not}
 use mathlib.Core.Logic.{_⊎_, inl, inr}
 use lib.Dec.{T, T-not}
 use lib.ListN.{length, length-append}
-use Rattle.mathematics.specs.Lists.{All, holds, someHolds}
-use Rattle.mathematics.specs.Graph.{Graph, WellFormed, isPath}
+use Rattle.mathematics.specs.Lists.{All, holds, someHolds, Pairwise, Rising}
+use Rattle.mathematics.specs.Graph.{Graph, WellFormed, isPath, withReads}
 use Rattle.mathematics.specs.Cover.{Item, vert, arc, Weighted, IsCover, through, total, paths}
-use Rattle.mathematics.specs.Prepare.{overlap}
+use Rattle.mathematics.specs.Prepare.{overlap, Apart, Independent}
 use Rattle.mathematics.specs.Bound.{readsThrough}
 use Rattle.mathematics.specs.Reach.{itemList}
 use Rattle.mathematics.proofs.Basics.{or-cases, all-weaken}
 use Rattle.mathematics.proofs.Reach.{through-iff-holds}
-use Rattle.mathematics.proofs.WithReads.{withReads, Pairwise, Apart, Independent, Met, cover-paths}
-use Rattle.mathematics.proofs.Parts.{Within, holds-within, within-holds, regroup, levi, Rising, one-place}
+use Rattle.mathematics.proofs.WithReads.{Met, cover-paths}
+use Rattle.mathematics.proofs.Parts.{Within, holds-within, within-holds, regroup, levi, one-place}
 use Rattle.mathematics.proofs.Overlap.{Clear, clear-swap, clear-most}
 use Rattle.mathematics.proofs.Taken.{all-both}
 use Rattle.mathematics.proofs.Linked.{path-rising, through-within}

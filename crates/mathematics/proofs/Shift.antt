@@ -53,7 +53,7 @@ module _ (P : Prices) (L : Ordered P) where
       rw (slack-from c a b d) (nil-le-add P L (sub P (P .add c a) b) d (h .0) nd, λ i. absurd (in₀ (le→leb 1 k i)))
   raised-stands false false c a b d k h nd out in₀ = rw (slack-both c a b d) h
 
-  -- "raise p by d outside S": a load stays sound
+  -- where p is raised by d outside S, a load stays sound
   pub raise-sound : (live : ℕ → Bool) (N : ℕ) (p : ℕ → P .El) (S : List ℕ) (d : P .El) (x : Load (P .El)) → Le P (P .nil) d → Sound P live N p x →
       (T (leaves P S x) → Le P d (slack P p (x .edge))) → (T (enters P S x) → ⊥) → Sound P live N (raise P p S d) x
   raise-sound live N p S d x nd h out in₀ =

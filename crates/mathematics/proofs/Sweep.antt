@@ -1,6 +1,6 @@
--- A flow that balances at every node is a list of weighted walks (MATHEMATICS.md section 6, by another induction): nodes are numbers, links rise,
--- and the nodes between 0 and M are swept away one after the other: what enters a node is paired with what leaves it, each pair one piece. A pairing
--- has no more pieces than there were, so there are no more walks than links; and a pairing keeps the worth of the flow, whatever the links are worth.
+-- A flow that balances at every node is a list of weighted walks: nodes are numbers, links rise, and the nodes between 0 and M are swept away one after
+-- the other: what enters a node is paired with what leaves it, each pair one piece. A pairing has no more pieces than there were, so there are no more
+-- walks than links; and a pairing keeps the worth of the flow, whatever the links are worth.
 use Prim.Native.Nat.{ℕ, zero, suc, pred, _+_, _*_, _-_, _≤_, _<_}
 use mathlib.Core.Path.{_≡_, refl, sym, ap, subst, subst₂, _∙_}
 use mathlib.Core.List.{List, [], _∷_, _++_}
@@ -10,10 +10,10 @@ use native.Mathlib.Nat.{eq-zero-or-pos, mul-add, add-mul, add-zero, le-refl, le-
 use native.Mathlib.Omega.{arith}
 use lib.Dec.{T, eqb, eqb→eq, eqb-refl, leb, leb→le, nleb→lt, ltb→lt, not-T}
 use lib.ListN.{length, length-append}
-use Rattle.mathematics.specs.Lists.{All}
+use Rattle.mathematics.specs.Lists.{All, sumOver}
 use Rattle.mathematics.specs.Cover.{oneIf}
 use Rattle.mathematics.proofs.Basics.{all-append, all-from, all-weaken, test, is-true, is-false}
-use Rattle.mathematics.proofs.Loads.{unequal, Load, sumOver, worth, one, none, passing, failing, sumOver-append, worth-append, worth-same, worth-none, worth-nothing, worth-empty, worth-parts, length-parts, all-passing, all-failing, relabel, worth-relabel, length-relabel, all-relabel, isPresent, worth-present}
+use Rattle.mathematics.proofs.Loads.{unequal, Load, worth, one, none, passing, failing, sumOver-append, worth-append, worth-same, worth-none, worth-nothing, worth-empty, worth-parts, length-parts, all-passing, all-failing, relabel, worth-relabel, length-relabel, all-relabel, isPresent, worth-present}
 
 -- a walk from one node to another, along links
 pub record Walk (L : Type 0) : Type 0 where

@@ -4,10 +4,9 @@ use mathlib.Core.Path.{_≡_, refl, ap, subst}
 use mathlib.Core.List.{List, [], _∷_}
 use mathlib.Core.Logic.{_⊎_, inl, inr}
 use lib.ListN.{length}
-use Rattle.mathematics.specs.Lists.{All}
+use Rattle.mathematics.specs.Lists.{All, Pairwise}
 use Rattle.mathematics.specs.Range.{OneOf}
 use Rattle.mathematics.proofs.Basics.{all-among, all-from}
-use Rattle.mathematics.proofs.WithReads.{Pairwise}
 
 -- the second list is the first without x
 pub data Taken {A : Type 0} (x : A) : List A → List A → Type 0 where

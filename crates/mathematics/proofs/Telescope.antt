@@ -12,35 +12,13 @@ use Rattle.mathematics.specs.Price.{Prices, Le, sub, times, Ordered}
 use Rattle.mathematics.specs.Lists.{All, lastOf}
 use Rattle.mathematics.specs.Graph.{Vertex, Arc, Graph, noVertex, isStart, isEnd, linked, WellFormed}
 use Rattle.mathematics.specs.Cover.{Item, vert, arc, trail, costOf, arcCosts, copyPrice}
-use Rattle.mathematics.specs.Bound.{rest, Marks, startSlack, endSlack, vertexSlack, arcSlack, vertexSlacksHold, arcSlackHolds, VertexSlacksHold, SlacksHold, readTerm}
+use Rattle.mathematics.specs.Bound.{rest, Marks, startSlack, endSlack, vertexSlack, arcSlack, vertexSlacksHold, arcSlackHolds, VertexSlacksHold, SlacksHold, readTerm, TermsHold, slacksAlong, slacksAtEnds}
 use Rattle.mathematics.specs.Range.{OneOf}
+pub use Rattle.mathematics.specs.Bound.{itemSlack}
 use Rattle.mathematics.proofs.Basics.{and-l, and-r, all-among, all-weaken}
 use Rattle.mathematics.proofs.Algebra
-use Rattle.mathematics.proofs.Algebra.{sumBy}
 use Rattle.mathematics.proofs.Reach.{joining-arc, start-below, end-below}
 use Rattle.mathematics.proofs.Items.{Known, joins-own, cost-own, known-read}
-
-module _ (P : Prices) where
-  -- the slack of a vertex or of an arc
-  abbrev pub itemSlack : Graph (P .El) → Marks (P .El) → Item → P .El
-  itemSlack G m (vert v) = vertexSlack P m v
-  itemSlack G m (arc u v) = sub P (P .add (costOf P (G .arcs) u v) (m .out u)) (m .into v)
-
-  -- the slacks of the vertices and arcs of p, in total
-  abbrev pub slacksAlong : Graph (P .El) → Marks (P .El) → List ℕ → P .El
-  slacksAlong G m p = sumBy P (itemSlack G m) (trail p)
-
-  -- the first vertex's start slack and the last one's end slack, in total
-  abbrev pub slacksAtEnds : Graph (P .El) → Marks (P .El) → List ℕ → P .El
-  slacksAtEnds G m [] = P .nil
-  slacksAtEnds G m (v ∷ p) = P .add (startSlack P G m v) (endSlack P m (lastOf v p))
-
-  -- no term of the bound with rs for the prepared reads is negative
-  pub record TermsHold (rs : List (List ℕ)) (G : Graph (P .El)) (m : Marks (P .El)) : Type 0 where
-    pub vertex-terms : (v : ℕ) → v < length (G .vertices) →
-        Le P (P .nil) (times P (rest rs (vert v) (getD (G .vertices) v noVertex .demand)) (vertexSlack P m v))
-    pub arc-terms : All (λ a. Le P (P .nil) (times P (rest rs (arc (a .tail) (a .head)) (a .demand)) (arcSlack P m a))) (G .arcs)
-    pub read-terms : All (λ r. Le P (P .nil) (readTerm P G m r)) rs
 
 module _ (P : Prices) (L : Ordered P) where
   -- one vertex u and the arc from u to v in front: c is the arc's cost, the rest is into and out of marks

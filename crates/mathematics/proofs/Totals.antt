@@ -5,16 +5,15 @@ use mathlib.Core.Path.{_≡_, refl, sym, ap, ap₂, _∙_}
 use mathlib.Core.List.{List, [], _∷_, map}
 use lib.Dec.{T}
 use lib.ListN.{length}
-use Rattle.mathematics.specs.Price.{Prices, times, Ordered}
+use Rattle.mathematics.specs.Price.{Prices, times, Ordered, sumBy}
 use Rattle.mathematics.specs.Lists.{All}
 use Rattle.mathematics.specs.Graph.{Vertex, Arc, Graph, isPath, linked, WellFormed}
 use Rattle.mathematics.specs.Cover.{Item, vert, arc, trail, countOf, Ask, vertexAsks, arcAsk, asks, Weighted, total, totalWeight, costOf, arcCosts, copyPrice, price}
-use Rattle.mathematics.specs.Bound.{readsThrough, rest, Marks, arcSlack, vertexTerms, arcTerms, readTerms, boundWith}
+use Rattle.mathematics.specs.Bound.{readsThrough, rest, Marks, arcSlack, vertexTerms, arcTerms, readTerms, boundWith, itemSlack, slacksAlong, slacksAtEnds}
 use Rattle.mathematics.proofs.Basics.{all-from, all-weaken}
 use Rattle.mathematics.proofs.Algebra
-use Rattle.mathematics.proofs.Algebra.{sumBy}
 use Rattle.mathematics.proofs.Items.{Known, known-path, known-read, sum-by-count}
-use Rattle.mathematics.proofs.Telescope.{itemSlack, slacksAlong, slacksAtEnds, path-price-telescopes, read-term-telescopes, arc-slack-own}
+use Rattle.mathematics.proofs.Telescope.{path-price-telescopes, read-term-telescopes, arc-slack-own}
 
 -- an ask's rest and the reads through its item: its demand, or the reads where those are more
 abbrev pub owed : List (List ℕ) → Ask → ℕ

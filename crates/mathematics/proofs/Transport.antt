@@ -1,5 +1,5 @@
 -- Lowest-cost transport with marks in a network without capacities: all jobs are carried, every slack holds, every edge that carries something is tight.
--- One job at a time, as much as the tree's way leaves room for at each turn. MATHEMATICS.md section 5; Duality.antt reads covers off it.
+-- One job at a time, as much as the tree's way leaves room for at each turn. Duality.antt reads covers off it.
 use Prim.Native.Nat.{ℕ, zero, suc, _+_, _-_, _≤_}
 use native.Mathlib.Omega.{arith}
 use native.Mathlib.Nat.{le-refl}

@@ -1,4 +1,4 @@
--- The links of a graph as a network for Transport.antt (MATHEMATICS.md section 5): its nodes are the root and the two sides of each useful vertex, every
+-- The links of a graph as a network for Transport.antt: its nodes are the root and the two sides of each useful vertex, every
 -- node is reached from the root and reaches it, and there is a job for each rest and each read.
 use Prim.Native.Nat.{ℕ, _-_, _/_, _<_}
 use native.Mathlib.Omega.{arith}
@@ -14,12 +14,13 @@ use Rattle.mathematics.specs.Graph.{Graph, isEnd, hasArc, linked, WellFo
 use Rattle.mathematics.specs.Cover.{vert, arc, costOf}
 use Rattle.mathematics.specs.Range.{OneOf, CostsHold}
 use Rattle.mathematics.specs.Reach.{fromStart, toEnd, useful}
+use Rattle.mathematics.specs.Links.{Link, opening, closing, inside, across, reading, inNode, outNode, linkFrom, linkTo}
 use Rattle.mathematics.proofs.Basics.{and-l, and-r, and-in, or-r, or-cases, all-among, all-append, all-map, all-weaken, among-map, test}
 use Rattle.mathematics.proofs.Reach.{linked-first, linked-rest, joining-arc, from-start-path, to-end-path, from-start-below, useful-along, start-from-start, end-to-end}
 use Rattle.mathematics.proofs.Items.{cost-own}
 use Rattle.mathematics.proofs.Network.{Edge, Job, IsNode, IsNetwork, Walk, stop, step}
 use Rattle.mathematics.proofs.Loads.{unequal, Load}
-use Rattle.mathematics.proofs.Links.{Link, opening, closing, inside, across, reading, inNode, outNode, linkFrom, linkTo, OfGraph}
+use Rattle.mathematics.proofs.Links.{OfGraph}
 use Rattle.mathematics.proofs.Decompose.{readLoad, readLoads}
 use Rattle.mathematics.proofs.Base.{base, Useful, OfBase, base-of-graph, has-opening, has-closing, has-link}
 

@@ -1,13 +1,14 @@
 -- Document 01, "Marks and the bound", and the rest of a demand.
-use Prim.Native.Nat.{ℕ, zero, suc, _+_, _-_, _<_}
+use Prim.Native.Nat.{ℕ, suc, _+_, _-_, _<_}
+use mathlib.Core.Path.{_≡_}
 use mathlib.Core.List.{List, [], _∷_}
-use mathlib.Core.Bool.{Bool, true, false, cond, _&&_}
+use mathlib.Core.Bool.{Bool, true, cond, _&&_}
 use lib.Dec.{T}
-use lib.ListN.{length}
-use Rattle.mathematics.specs.Price.{Prices, Le, sub, times}
+use lib.ListN.{length, getD}
+use Rattle.mathematics.specs.Price.{Prices, Le, sub, times, sumBy}
 use Rattle.mathematics.specs.Lists.{All, lastOf}
-use Rattle.mathematics.specs.Graph.{Vertex, Arc, Graph, isStart, isEnd}
-use Rattle.mathematics.specs.Cover.{Item, vert, arc, through, arcCosts}
+use Rattle.mathematics.specs.Graph.{Vertex, Arc, Graph, noVertex}
+use Rattle.mathematics.specs.Cover.{Item, vert, arc, trail, through, Weighted, costOf, arcCosts, price}
 use Rattle.mathematics.specs.Prepare.{prepare}
 
 -- how many of the reads rs pass through the item
@@ -87,3 +88,29 @@ module _ (P : Prices) where
   -- "The bound"
   unfoldable pub bound : Graph (P .El) → Marks (P .El) → P .El
   bound G m = boundWith (prepare (G .reads)) G m
+
+  -- "Where no slack is below 0, no term of the bound is negative": each term, with rs for the prepared reads
+  pub record TermsHold (rs : List (List ℕ)) (G : Graph (P .El)) (m : Marks (P .El)) : Type 0 where
+    pub vertex-terms : (v : ℕ) → v < length (G .vertices) →
+        Le P (P .nil) (times P (rest rs (vert v) (getD (G .vertices) v noVertex .demand)) (vertexSlack m v))
+    pub arc-terms : All (λ a. Le P (P .nil) (times P (rest rs (arc (a .tail) (a .head)) (a .demand)) (arcSlack m a))) (G .arcs)
+    pub read-terms : All (λ r. Le P (P .nil) (readTerm G m r)) rs
+
+  -- The marks show that W costs no more than it must: no slack is below 0 and the bound is W's price. This is what an answer's marks are for.
+  abbrev pub Shows : Graph (P .El) → Marks (P .El) → List Weighted → Type 0
+  Shows G m W = SlacksHold G m × (bound G m ≡ price P G W)
+
+  -- the slack of a vertex or of an arc
+  abbrev pub itemSlack : Graph (P .El) → Marks (P .El) → Item → P .El
+  itemSlack G m (vert v) = vertexSlack m v
+  itemSlack G m (arc u v) = sub P (P .add (costOf P (G .arcs) u v) (m .out u)) (m .into v)
+
+  -- The price of a copy and the term of a read, as slacks, for why the bound lies below the price:
+  -- the slacks of the vertices and arcs of p, in total,
+  abbrev pub slacksAlong : Graph (P .El) → Marks (P .El) → List ℕ → P .El
+  slacksAlong G m p = sumBy P (itemSlack G m) (trail p)
+
+  -- and the first vertex's start slack and the last one's end slack
+  abbrev pub slacksAtEnds : Graph (P .El) → Marks (P .El) → List ℕ → P .El
+  slacksAtEnds G m [] = P .nil
+  slacksAtEnds G m (v ∷ p) = P .add (startSlack G m v) (endSlack m (lastOf v p))

@@ -68,3 +68,7 @@ module _ {E : Type 0} where
     pub rises : All (Rises (length (G .vertices))) (G .arcs)
     pub once : Distinct {A = ℕ × ℕ} (map (λ (a : Arc E). (a .tail, a .head)) (G .arcs))
     pub reads-linked : All (λ r. (2 ≤ length r) × T (linked (G .arcs) r)) (G .reads)
+
+  -- The graph with rs for its reads; opening price, vertices and arcs are kept. A cover of the prepared reads is a cover of such a graph.
+  abbrev pub withReads : Graph E → List (List ℕ) → Graph E
+  withReads G rs = record { opening = G .opening; vertices = G .vertices; arcs = G .arcs; reads = rs }

@@ -7,3 +7,4 @@ pub mod Bound
 pub mod Exists
 pub mod Reach
 pub mod Range
+pub mod Links

@@ -1,5 +1,5 @@
--- Words on lists that the definitions use: all, none twice, a list of numbers that begins another, that stands in another.
-use Prim.Native.Nat.{ℕ, zero, suc}
+-- Words on lists that the definitions use: all, none twice, each two, sums, a list of numbers that rises, that begins another, that stands in another.
+use Prim.Native.Nat.{ℕ, _+_, _<_}
 use mathlib.Core.List.{List, [], _∷_}
 use mathlib.Core.Bool.{Bool, true, false, _&&_, _||_}
 use mathlib.Core.Logic.{_≢_}
@@ -14,6 +14,21 @@ All P (x ∷ xs) = P x × All P xs
 abbrev pub Distinct : {A : Type 0} → List A → Type 0
 Distinct [] = Unit {0}
 Distinct (x ∷ xs) = All (λ y. x ≢ y) xs × Distinct xs
+
+-- R holds between each and every later one
+abbrev pub Pairwise : {A : Type 0} → (A → A → Type 0) → List A → Type 0
+Pairwise R [] = Unit {0}
+Pairwise R (x ∷ xs) = All (R x) xs × Pairwise R xs
+
+-- the sum of f over a list
+abbrev pub sumOver : {A : Type 0} → (A → ℕ) → List A → ℕ
+sumOver f [] = 0
+sumOver f (x ∷ xs) = f x + sumOver f xs
+
+-- numbers that rise strictly, as they do along a path or a read
+abbrev pub Rising : List ℕ → Type 0
+Rising [] = Unit {0}
+Rising (v ∷ p) = All (λ w. v < w) p × Rising p
 
 -- the list p begins with r
 abbrev pub begins : List ℕ → List ℕ → Bool

@@ -2,6 +2,7 @@
 -- slacks and bound become pairs compared in that order". Everything else is stated over any `Prices`, so it holds for both kinds.
 use Prim.Native.Nat.{ℕ, zero, suc}
 use mathlib.Core.Path.{_≡_}
+use mathlib.Core.List.{List, [], _∷_}
 use mathlib.Core.Logic.{_⊎_}
 use mathlib.Core.Bool.{Bool, true, false, cond}
 use lib.Dec.{T}
@@ -28,6 +29,11 @@ sub P a b = P .add a (P .neg b)
 abbrev pub times : (P : Prices) → ℕ → P .El → P .El
 times P zero a = P .nil
 times P (suc k) a = P .add a (times P k a)
+
+-- the sum of f over a list
+abbrev pub sumBy : (P : Prices) {A : Type 0} → (A → P .El) → List A → P .El
+sumBy P f [] = P .nil
+sumBy P f (x ∷ xs) = P .add (f x) (sumBy P f xs)
 
 -- The laws that the theorems use: a commutative group with a total order that sums respect.
 pub record Ordered (P : Prices) : Type 0 where

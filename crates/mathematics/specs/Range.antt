@@ -1,15 +1,16 @@
 -- What keeps an answer small: how many paths, how many copies, and how large a mark. Document 01, "Numbers allowed": "a lowest-price cover and
 -- marks inside them always exist where a cover does". No limit of a form stands here; the forms' limits follow by numbers.
-use Prim.Native.Nat.{ℕ, zero, suc, _+_, _≤_}
+use Prim.Native.Nat.{ℕ, _+_, _*_, _≤_, _<_}
 use mathlib.Core.Path.{_≡_}
 use mathlib.Core.List.{List, [], _∷_, map}
-use mathlib.Core.Bool.{Bool, true, false, cond}
+use mathlib.Core.Bool.{Bool, cond}
 use mathlib.Core.Logic.{_⊎_}
 use lib.ListN.{length}
 use Rattle.mathematics.specs.Price.{Prices, Le, sub}
 use Rattle.mathematics.specs.Lists.{All}
 use Rattle.mathematics.specs.Graph.{Vertex, Arc, Graph}
-use Rattle.mathematics.specs.Cover.{Ask, oneIf, asks}
+use Rattle.mathematics.specs.Cover.{Ask, oneIf, asks, Weighted, totalWeight, IsCover, price}
+use Rattle.mathematics.specs.Bound.{Marks, SlacksHold, bound}
 
 abbrev pub startCount : List Vertex → ℕ
 startCount [] = 0
@@ -59,3 +60,15 @@ module _ (P : Prices) where
   pub record CostsHold (G : Graph (P .El)) : Type 0 where
     pub opening-holds : Le P (P .nil) (G .opening)
     pub costs-hold : All (λ a. Le P (P .nil) (a .cost)) (G .arcs)
+
+  -- "a lowest-price cover and marks inside them": a cover, marks that show its price to be lowest, few paths, few copies, small marks
+  pub record Best (G : Graph (P .El)) : Type 0 where
+    pub cover : List Weighted
+    pub marks : Marks (P .El)
+    pub is-cover : IsCover G cover
+    pub slacks-hold : SlacksHold P G marks
+    pub price-is-bound : price P G cover ≡ bound P G marks
+    pub few-paths : length cover ≤ pathLimit G
+    pub few-copies : totalWeight cover ≤ weightLimit G
+    pub marks-within : (v : ℕ) → v < length (G .vertices) →
+        MarkWithin G (2 * length (G .vertices)) (marks .into v) × MarkWithin G (2 * length (G .vertices)) (marks .out v)

@@ -52,20 +52,20 @@ module _ {E : Type 0} where
   unfoldable pub toEnd : Graph E → ℕ → Bool
   toEnd G v = toEndIn G (length (G .vertices) - v) v
 
-  -- "Call a vertex useful when both hold of it."
+  -- a vertex is useful when both hold of it: it lies on a start-to-end path
   abbrev pub useful : Graph E → ℕ → Bool
   useful G v = fromStart G v && toEnd G v
 
-  -- "A read lies on such a path exactly when its first vertex is reached from a start and its last reaches an end."
+  -- a read lies on a start-to-end path when its first vertex is reached from a start and its last reaches an end,
   abbrev pub readLies : Graph E → List ℕ → Bool
   readLies G [] = false
   readLies G (v ∷ r) = fromStart G v && toEnd G (lastOf v r)
 
-  -- and so does a vertex or an arc
+  -- and a vertex or an arc does as the read of its vertices would
   abbrev pub itemLies : Graph E → Item → Bool
   itemLies G i = readLies G (itemList i)
 
-  -- "An item asks for nothing or lies on a start-to-end path"
+  -- the item asks for nothing, or lies on a start-to-end path
   abbrev pub askLies : Graph E → Ask → Bool
   askLies G a = eqb (a .demand) 0 || itemLies G (a .item)
 

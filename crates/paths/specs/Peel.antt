@@ -7,12 +7,11 @@ use mathlib.Core.Bool.{true, false, cond}
 use mathlib.Core.Logic.{_⊎_}
 use lib.Dec.{T, ltb}
 use lib.ListN.{length, getD, take}
-use Rattle.mathematics.specs.Lists.{All, someHolds}
+use Rattle.mathematics.specs.Lists.{All, sumOver, someHolds}
 use Rattle.mathematics.specs.Graph.{isPath}
 use Rattle.mathematics.specs.Cover.{Item, Weighted, total, totalWeight, paths}
 use Rattle.mathematics.specs.Range.{OneOf}
-use Rattle.mathematics.proofs.Loads.{sumOver}
-use Rattle.mathematics.proofs.Links.{AtEnds, passes, opens, pathOf}
+use Rattle.mathematics.specs.Links.{AtEnds, passes, opens, pathOf}
 use Rattle.forms.specs.Bytes.{tabulate}
 use Rattle.forms.specs.GraphForm.{vertexCount}
 use Rattle.forms.specs.GraphOf.{graphOf}

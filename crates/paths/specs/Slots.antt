@@ -14,7 +14,7 @@ use Rattle.mathematics.specs.Cover.{vert, arc}
 use Rattle.mathematics.specs.Prepare.{prepare}
 use Rattle.mathematics.specs.Bound.{rest}
 use Rattle.mathematics.specs.Reach.{useful}
-use Rattle.mathematics.proofs.Links.{Link, opening, closing, inside, across, reading, linkFrom, linkTo}
+use Rattle.mathematics.specs.Links.{Link, opening, closing, inside, across, reading, linkFrom, linkTo}
 use Rattle.forms.specs.GraphForm.{vertexCount, arcCount, openingPrice, arcAt, arcTail, arcHead, arcCost, arcDemand, vertexDemand}
 use Rattle.forms.specs.GraphOf.{graphOf}
 

@@ -8,7 +8,7 @@ ghost use Prim.Native.Nat.{ℕ, _+_, _*_, _<_, _≤_};
 ghost use mathlib.Core.List.{[], map};
 ghost use lib.ListN.{length, take, getD};
 ghost use Rattle.mathematics.specs.Lists.{All};
-ghost use Rattle.mathematics.proofs.Links.{linkVertices, pathOf};
+ghost use Rattle.mathematics.specs.Links.{linkVertices, pathOf};
 ghost use Rattle.network.specs.Network.{at, Chained};
 ghost use Rattle.forms.specs.GraphForm.{vertexCount};
 ghost use Rattle.paths.specs.Slots.{preparedOf, allSlots, readingSlot, linkAt};

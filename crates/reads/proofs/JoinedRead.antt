@@ -60,12 +60,12 @@ overlap-less a b l =
 pub record Joins (rows : List (List ℕ)) (lens : List ℕ) (count : ℕ) (m : Meeting) : Type 0 where
   pub i-below : m .i < count
   pub j-below : m .j < count
-  pub part : m .length ≤ getD lens (m .j) 0
-  pub room : getD lens (m .i) 0 + getD lens (m .j) 0 ≤ 64 + m .length
-  pub read : ReadHolds (joinOf rows lens (m .i) (m .j) (m .length))
+  pub part : m .shared ≤ getD lens (m .j) 0
+  pub room : getD lens (m .i) 0 + getD lens (m .j) 0 ≤ 64 + m .shared
+  pub read : ReadHolds (joinOf rows lens (m .i) (m .j) (m .shared))
 
 module _ (rows : List (List ℕ)) (lens : List ℕ) (count : ℕ) (t : TableHolds rows lens count) (m : Meeting) where
-  joins-at : m .i < count → m .j < count → m .length ≡ overlap (rowAt rows lens (m .i)) (rowAt rows lens (m .j)) → 1 ≤ m .length →
+  joins-at : m .i < count → m .j < count → m .shared ≡ overlap (rowAt rows lens (m .i)) (rowAt rows lens (m .j)) → 1 ≤ m .shared →
       Joins rows lens count m
   unfolding joinOf
   joins-at li lj e l =
@@ -74,20 +74,20 @@ module _ (rows : List (List ℕ)) (lens : List ℕ) (count : ℕ) (t : TableHold
       let gi = table-row rows lens count t (m .i) li in
       let gj = table-row rows lens count t (m .j) lj in
       let some : 1 ≤ overlap a b = omega (arith, e) in
-      let r : ReadHolds (a ++ drop (m .length) b) = rw e (read-join a b (gi .read) (gj .read) some) in
+      let r : ReadHolds (a ++ drop (m .shared) b) = rw e (read-join a b (gi .read) (gj .read) some) in
       record {
         i-below = li;
         j-below = lj;
         part = omega (arith, e, overlap-less a b some, gj .long);
-        room = omega (arith, gi .long, gj .long, read-size (a ++ drop (m .length) b) r, length-append a (drop (m .length) b), length-drop (m .length) b);
+        room = omega (arith, gi .long, gj .long, read-size (a ++ drop (m .shared) b) r, length-append a (drop (m .shared) b), length-drop (m .shared) b);
         read = r;
       }
 
   -- the pair with the longest overlap can be joined
-  pub longest-joins : m ≡ longest (rowsOf rows lens count) → 1 ≤ m .length → Joins rows lens count m
+  pub longest-joins : m ≡ longest (rowsOf rows lens count) → 1 ≤ m .shared → Joins rows lens count m
   longest-joins e l =
       elim (longest-meets (rowsOf rows lens count)) [
-        | inl z ↦ absurd (omega (arith, ap {B = ℕ} (λ (q : Meeting). q .length) e, z))
+        | inl z ↦ absurd (omega (arith, ap {B = ℕ} (λ (q : Meeting). q .shared) e, z))
         | inr h ↦
             let g : Meets (rowsOf rows lens count) m = subst (Meets (rowsOf rows lens count)) (sym e) h in
             let li : m .i < count = omega (arith, g .i-below, table-length rows lens count t) in
@@ -96,11 +96,11 @@ module _ (rows : List (List ℕ)) (lens : List ℕ) (count : ℕ) (t : TableHold
             (g .size ∙ ap₂ overlap (table-get rows lens count t (m .i) li) (table-get rows lens count t (m .j) lj)) l
       ]
 
-  module _ (f : Joins rows lens count m) (read : List ℕ) (e : read ≡ joinOf rows lens (m .i) (m .j) (m .length)) where
-    join-read : read ≡ getD (rowsOf rows lens count) (m .i) [] ++ drop (m .length) (getD (rowsOf rows lens count) (m .j) [])
+  module _ (f : Joins rows lens count m) (read : List ℕ) (e : read ≡ joinOf rows lens (m .i) (m .j) (m .shared)) where
+    join-read : read ≡ getD (rowsOf rows lens count) (m .i) [] ++ drop (m .shared) (getD (rowsOf rows lens count) (m .j) [])
     unfolding joinOf
     join-read =
-        e ∙ sym (ap₂ (λ (a b : List ℕ). a ++ drop (m .length) b) (table-get rows lens count t (m .i) (f .i-below)) (table-get rows lens count t (m .j) (f .j-below)))
+        e ∙ sym (ap₂ (λ (a b : List ℕ). a ++ drop (m .shared) b) (table-get rows lens count t (m .i) (f .i-below)) (table-get rows lens count t (m .j) (f .j-below)))
 
     -- the joined read is a read
     pub join-holds : ReadHolds read

@@ -21,15 +21,15 @@ module _ (rows : List (List ℕ)) (lens : List ℕ) (i j : ℕ) (best : Meeting)
   next-same e = sym (simp (eq-eqb i j e))
 
   -- a longer overlap is the better one
-  pub next-longer : (n : ℕ) → (i ≡ j → ⊥) → n ≡ overlap (rowAt rows lens i) (rowAt rows lens j) → best .length < n →
-      record { length = n; i = i; j = j } ≡ nextAt rows lens i j best
+  pub next-longer : (n : ℕ) → (i ≡ j → ⊥) → n ≡ overlap (rowAt rows lens i) (rowAt rows lens j) → best .shared < n →
+      record { shared = n; i = i; j = j } ≡ nextAt rows lens i j best
   unfolding nextAt
-  next-longer n d e l = sym (simp (ne-eqb i j d, sym e, lt-ltb (best .length) n l))
+  next-longer n d e l = sym (simp (ne-eqb i j d, sym e, lt-ltb (best .shared) n l))
 
   -- an overlap that is not longer leaves the best so far
-  pub next-kept : (i ≡ j → ⊥) → overlap (rowAt rows lens i) (rowAt rows lens j) ≤ best .length → best ≡ nextAt rows lens i j best
+  pub next-kept : (i ≡ j → ⊥) → overlap (rowAt rows lens i) (rowAt rows lens j) ≤ best .shared → best ≡ nextAt rows lens i j best
   unfolding nextAt
-  next-kept d l = sym (simp (ne-eqb i j d, le-ltb (best .length) (overlap (rowAt rows lens i) (rowAt rows lens j)) l))
+  next-kept d l = sym (simp (ne-eqb i j d, le-ltb (best .shared) (overlap (rowAt rows lens i) (rowAt rows lens j)) l))
 
 module _ (rows : List (List ℕ)) (lens : List ℕ) (count i : ℕ) (t : TableHolds rows lens count) where
   -- one row as the second of the pair is looked at
@@ -64,6 +64,6 @@ module _ (rows : List (List ℕ)) (lens : List ℕ) (count i : ℕ) (t : TableHo
 
 -- the search begins with length 0
 pub all-start : (rows : List (List ℕ)) (lens : List ℕ) (count : ℕ) →
-    longest (rowsOf rows lens count) ≡ allFrom rows lens count 0 (record { length = 0; i = 0; j = 0 })
+    longest (rowsOf rows lens count) ≡ allFrom rows lens count 0 (record { shared = 0; i = 0; j = 0 })
 unfolding longest allFrom
 all-start rows lens count = refl

@@ -16,17 +16,17 @@ use Rattle.mathematics.proofs.Joined.{join, join-fewer}
 use Rattle.reads.specs.ReadTable.{rowsOf, TableHolds, Leaves}
 use Rattle.reads.proofs.TableRows.{table-length}
 
-while-stop : (turns : ℕ) (rs : List (List ℕ)) → longest rs .length ≡ 0 → joinWhile turns rs ≡ rs
+while-stop : (turns : ℕ) (rs : List (List ℕ)) → longest rs .shared ≡ 0 → joinWhile turns rs ≡ rs
 while-stop zero rs e = refl
 while-stop (suc turns) rs e =
-    ap (λ (b : Bool). cond b rs (joinWhile turns (joinAt (longest rs) rs))) (eq-eqb (longest rs .length) 0 e)
+    ap (λ (b : Bool). cond b rs (joinWhile turns (joinAt (longest rs) rs))) (eq-eqb (longest rs .shared) 0 e)
 
-while-turn : (turns : ℕ) (rs : List (List ℕ)) → (longest rs .length ≡ 0 → ⊥) → joinWhile (suc turns) rs ≡ joinWhile turns (joinAt (longest rs) rs)
+while-turn : (turns : ℕ) (rs : List (List ℕ)) → (longest rs .shared ≡ 0 → ⊥) → joinWhile (suc turns) rs ≡ joinWhile turns (joinAt (longest rs) rs)
 while-turn turns rs n =
-    ap (λ (b : Bool). cond b rs (joinWhile turns (joinAt (longest rs) rs))) (ne-eqb (longest rs .length) 0 n)
+    ap (λ (b : Bool). cond b rs (joinWhile turns (joinAt (longest rs) rs))) (ne-eqb (longest rs .shared) 0 n)
 
 -- a single read overlaps with no other
-longest-few : (rs : List (List ℕ)) → length rs ≤ 1 → longest rs .length ≡ 0
+longest-few : (rs : List (List ℕ)) → length rs ≤ 1 → longest rs .shared ≡ 0
 unfolding longest
 longest-few [] l = refl
 longest-few (a ∷ []) l = refl
@@ -36,7 +36,7 @@ longest-few (a ∷ b ∷ rs) l = absurd (omega arith)
 while-more : (turns : ℕ) (rs : List (List ℕ)) → length rs ≤ turns → joinWhile (suc turns) rs ≡ joinWhile turns rs
 while-more zero rs l = while-stop 1 rs (longest-few rs (omega arith))
 while-more (suc turns) rs l =
-    elim (ℕ-discrete (longest rs .length) 0) [
+    elim (ℕ-discrete (longest rs .shared) 0) [
       | yes e ↦ while-stop (suc (suc turns)) rs e ∙ sym (while-stop (suc turns) rs e)
       | no n ↦
           while-turn (suc turns) rs n
@@ -69,16 +69,16 @@ prepare-start rs rows lens n h =
 
 module _ (total : List (List ℕ)) (rows : List (List ℕ)) (lens : List ℕ) (n : ℕ) (t : TableHolds rows lens n) (e : total ≡ joinWhile n (rowsOf rows lens n)) where
   -- a turn that joins leaves the rest of the turns
-  pub prepare-turn : (m : Meeting) (rows′ : List (List ℕ)) (lens′ : List ℕ) (n′ : ℕ) → m ≡ longest (rowsOf rows lens n) → (m .length ≡ 0 → ⊥) →
+  pub prepare-turn : (m : Meeting) (rows′ : List (List ℕ)) (lens′ : List ℕ) (n′ : ℕ) → m ≡ longest (rowsOf rows lens n) → (m .shared ≡ 0 → ⊥) →
       Leaves rows′ lens′ n′ (joinAt m (rowsOf rows lens n)) → n′ + 1 ≡ n → total ≡ joinWhile n′ (rowsOf rows′ lens′ n′)
   prepare-turn m rows′ lens′ n′ f d h s =
       e ∙ (ap (λ (k : ℕ). joinWhile k (rowsOf rows lens n)) (sym s ∙ add-one n′)
-      ∙ (while-turn n′ (rowsOf rows lens n) (λ z. d (ap {B = ℕ} (λ (q : Meeting). q .length) f ∙ z))
+      ∙ (while-turn n′ (rowsOf rows lens n) (λ z. d (ap {B = ℕ} (λ (q : Meeting). q .shared) f ∙ z))
       ∙ ap (joinWhile n′) (ap (λ (q : Meeting). joinAt q (rowsOf rows lens n)) (sym f) ∙ sym (h .reads))))
 
   -- no two reads overlap: the table holds the prepared reads
-  pub prepare-stop : (m : Meeting) → m ≡ longest (rowsOf rows lens n) → m .length ≡ 0 → rowsOf rows lens n ≡ total
-  prepare-stop m f z = sym (e ∙ while-stop n (rowsOf rows lens n) (ap {B = ℕ} (λ (q : Meeting). q .length) (sym f) ∙ z))
+  pub prepare-stop : (m : Meeting) → m ≡ longest (rowsOf rows lens n) → m .shared ≡ 0 → rowsOf rows lens n ≡ total
+  prepare-stop m f z = sym (e ∙ while-stop n (rowsOf rows lens n) (ap {B = ℕ} (λ (q : Meeting). q .shared) (sym f) ∙ z))
 
   -- one read or none is left: the table holds the prepared reads
   pub prepare-end : n ≤ 1 → rowsOf rows lens n ≡ total

@@ -88,12 +88,12 @@ Marks rows lens count marks = (k : ℕ) → k < count → getD marks k false ≡
 
 -- the struct's value as the mathematics' pair of reads
 abbrev pub meeting : Found → Meeting
-meeting p = record { length = p .length; i = p .i; j = p .j }
+meeting p = record { shared = p .shared; i = p .i; j = p .j }
 
 -- the better of best and the pair of the rows i and j
 unfoldable pub nextAt : List (List ℕ) → List ℕ → ℕ → ℕ → Meeting → Meeting
 nextAt rows lens i j best =
-    cond (eqb i j) best (longer best (record { length = overlap (rowAt rows lens i) (rowAt rows lens j); i = i; j = j }))
+    cond (eqb i j) best (longer best (record { shared = overlap (rowAt rows lens i) (rowAt rows lens j); i = i; j = j }))
 
 -- the longest with the read in row i, among the count reads from the j-th on, and best
 unfoldable pub withFrom : List (List ℕ) → List ℕ → ℕ → ℕ → ℕ → Meeting → Meeting

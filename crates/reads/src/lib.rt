@@ -7,9 +7,9 @@ ghost use Rattle.mathematics.specs.Lists.{holds};
 ghost use Rattle.mathematics.specs.Prepare.{dropParts, overlap as overlapOf, longest as longestOf, without, joinAt, prepare};
 ghost use Rattle.reads.specs.ReadTable.{rowAt, rowsOf, runs, Leaves, heldFrom, longerAt, longerFrom, gone, Marks, meeting, nextAt, withFrom, joinOf, ReadHolds, RowHolds, TableHolds, Place};
 
-// A pair of reads, by their rows, and the length of their overlap.
+// A pair of reads, by their rows, and how many vertices they share: the length of their overlap.
 struct Meeting {
-    length: usize,
+    shared: usize,
     i: usize,
     j: usize,
 }
@@ -229,7 +229,7 @@ fn longer_of(
         return best;
     }
     let n = lens[i];
-    let floor = best.length;
+    let floor = best.shared;
     if n <= floor {
         return best;
     }
@@ -238,7 +238,7 @@ fn longer_of(
     }
     let k = overlap(rows, lens, i, j);
     if floor < k {
-        return Meeting { length: k, i, j };
+        return Meeting { shared: k, i, j };
     }
     best
 }
@@ -264,13 +264,13 @@ fn longest_with(
     found
 }
 
-// The pair with the longest overlap; of several the lowest i, then the lowest j. Its length is 0 where no two reads overlap.
+// The pair with the longest overlap; of several the lowest i, then the lowest j. None is shared where no two reads overlap.
 fn longest(rows: &[[u8; 64]; 16], lens: &[usize; 16], count: usize) -> Meeting
     requires { ⌜ TableHolds (now rows) (now lens) count ⌝ }
     ensures { λ r. ⌜ meeting r ≡ longestOf (rowsOf (now (rows .entry)) (now (lens .entry)) count) ⌝ }
 {
     let mut found = Meeting {
-        length: 0,
+        shared: 0,
         i: 0,
         j: 0,
     };
@@ -345,13 +345,13 @@ fn put_row(
 fn join_at(rows: &mut [[u8; 64]; 16], lens: &mut [usize; 16], count: usize, m: Meeting) -> usize
     requires table { ⌜ TableHolds (now rows) (now lens) count ⌝ }
     requires longest { ⌜ meeting m ≡ longestOf (rowsOf (now rows) (now lens) count) ⌝ }
-    requires some { ⌜ 1 ≤ m .length ⌝ }
+    requires some { ⌜ 1 ≤ m .shared ⌝ }
     ensures left { λ r. ⌜ Leaves (now (rows .exit)) (now (lens .exit)) r (joinAt (meeting m) (rowsOf (now (rows .entry)) (now (lens .entry)) count)) ⌝ }
     ensures fewer { λ r. ⌜ r + 1 ≡ count ⌝ }
 {
     let i = m.i;
     let j = m.j;
-    let n = m.length;
+    let n = m.shared;
     let row = joined(rows, lens, i, j, n);
     let size = lens[i] + lens[j] - n;
     if i < j {
@@ -372,7 +372,7 @@ pub fn prepare_reads(rows: &mut [[u8; 64]; 16], lens: &mut [usize; 16], count: u
     let mut n = drop_parts(rows, lens, count);
     while 1 < n {
         let m = longest(rows, lens, n);
-        if m.length == 0 {
+        if m.shared == 0 {
             return n;
         }
         n = join_at(rows, lens, n, m);
