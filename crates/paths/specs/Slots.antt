@@ -1,4 +1,4 @@
--- How the builder numbers the links of a graph (crates/mathematics, proofs/Links.antt) as edges of its working network, and what lies on them at first.
+-- How the builder numbers the links of a graph (crates/mathematics, specs/Links.antt) as edges of its working network, and what lies on them at first.
 -- For a graph of n vertices and m arcs: the vertices, the arcs from the last down, the openings from the last down, the closings, then the prepared
 -- reads. (A chain of edges is walked from the last edge down: so a walk tries a closing first, then arcs and openings by rising vertex, and paths come
 -- out nearly in order.) The builder's stages cite these; no promise of its call does.
