@@ -4,11 +4,9 @@ use native.Mathlib.Nat.{zero-add, suc-add, zero-mul, suc-mul}
 use native.Mathlib.Omega.{arith}
 use mathlib.Core.Path.{_≡_, refl, sym, ap, ap₂, subst, _∙_}
 use mathlib.Core.List.{List, [], _∷_, _++_}
-use mathlib.Core.Logic.{_⊎_, inl, inr}
 use Rattle.mathematics.specs.Price.{Prices, Le, sub, times, Ordered}
 use Rattle.mathematics.specs.Lists.{All}
 pub use Rattle.mathematics.specs.Price.{sumBy}
-use Rattle.mathematics.proofs.Basics.{test}
 
 module _ (P : Prices) (L : Ordered P) where
   -- sums: with `L .add-assoc` and `L .add-comm` in the list, `simp` sorts any sum
@@ -95,23 +93,6 @@ module _ (P : Prices) (L : Ordered P) where
       le-of-sub (P .neg b) (P .neg a)
       (subst (Le P (P .nil)) (L .add-comm b (P .neg a) ∙ ap (P .add (P .neg a)) (sym (neg-neg b))) (sub-holds a b h))
 
-  -- a is at most b, or b is strictly below a
-  pub le-or-below : (a b : P .El) → Le P a b ⊎ (Le P b a × (a ≡ b → ⊥))
-  le-or-below a b = pick (test (P .leb a b)) (L .le-total a b)
-    where
-      pick : Le P a b ⊎ (Le P a b → ⊥) → Le P a b ⊎ Le P b a → Le P a b ⊎ (Le P b a × (a ≡ b → ⊥))
-      pick (inl h) k = inl h
-      pick (inr n) (inl h) = inl h
-      pick (inr n) (inr h) = inr (h, λ e. n (le-of-eq a b e))
-
-  pub equal-or-not : (a b : P .El) → (a ≡ b) ⊎ (a ≡ b → ⊥)
-  equal-or-not a b = pick (le-or-below a b) (le-or-below b a)
-    where
-      pick : Le P a b ⊎ (Le P b a × (a ≡ b → ⊥)) → Le P b a ⊎ (Le P a b × (b ≡ a → ⊥)) → (a ≡ b) ⊎ (a ≡ b → ⊥)
-      pick (inl h) (inl k) = inl (L .le-antisym a b h k)
-      pick (inl h) (inr k) = inr (λ e. k .1 (sym e))
-      pick (inr h) k = inr (h .1)
-
   -- multiples
   pub times-nil : (k : ℕ) → times P k (P .nil) ≡ P .nil
   times-nil zero = refl
@@ -134,10 +115,6 @@ module _ (P : Prices) (L : Ordered P) where
       let more : k + j * k ≡ suc j * k = omega (arith, suc-mul j k) in
       ap (P .add (times P k a)) (times-times j k a) ∙ (sym (times-sum k (j * k) a) ∙ ap (λ n. times P n a) more)
 
-  pub times-neg : (k : ℕ) (a : P .El) → times P k (P .neg a) ≡ P .neg (times P k a)
-  times-neg zero a = sym neg-nil
-  times-neg (suc k) a = ap (P .add (P .neg a)) (times-neg k a) ∙ sym (neg-add a (times P k a))
-
   pub times-holds : (k : ℕ) (a : P .El) → Le P (P .nil) a → Le P (P .nil) (times P k a)
   times-holds zero a h = L .le-refl (P .nil)
   times-holds (suc k) a h = nil-le-add a (times P k a) h (times-holds k a h)
@@ -147,10 +124,6 @@ module _ (P : Prices) (L : Ordered P) where
   times-mono zero k a h n = times-holds k a n
   times-mono (suc j) zero a h n = absurd (omega arith)
   times-mono (suc j) (suc k) a h n = le-add-left (times P j a) (times P k a) a (times-mono j k a (omega arith) n)
-
-  pub times-le : (k : ℕ) (a b : P .El) → Le P a b → Le P (times P k a) (times P k b)
-  times-le zero a b h = L .le-refl (P .nil)
-  times-le (suc k) a b h = le-add-both a b (times P k a) (times P k b) h (times-le k a b h)
 
   -- sums over a list
   module _ {A : Type 0} where

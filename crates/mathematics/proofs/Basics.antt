@@ -1,10 +1,9 @@
 -- Laws of the tests and of `All`, which every other file cites: a test that holds taken apart, membership, All of a part, of a joined list, of a mapped one.
-use Prim.Native.Nat.{ℕ, zero, suc, _+_, _≤_}
 use mathlib.Core.Path.{_≡_, refl, sym, ap, subst}
 use mathlib.Core.List.{List, [], _∷_, _++_, map}
-use mathlib.Core.Bool.{Bool, true, false, not, cond, _&&_, _||_}
+use mathlib.Core.Bool.{Bool, true, false, _&&_, _||_}
 use mathlib.Core.Logic.{_⊎_, inl, inr}
-use lib.Dec.{T, eqb, eqb→eq, eqb-refl}
+use lib.Dec.{T}
 use Rattle.mathematics.specs.Lists.{All}
 use Rattle.mathematics.specs.Range.{OneOf}
 

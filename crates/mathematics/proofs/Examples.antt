@@ -1,19 +1,18 @@
 -- Cases D, L and X of document 01, "Numbers to hold against the definitions", at the level of graphs and covers: that the covers named there are covers, at
 -- those prices, and that no cover is cheaper; and that the wrong turns document 01 names lead to no cover, or to a dearer one.
-use Prim.Native.Nat.{ℕ, zero, suc, _+_, _≤_}
+use Prim.Native.Nat.{ℕ, zero, suc, _≤_}
 use mathlib.Core.Path.{_≡_, refl}
-use mathlib.Core.List.{List, [], _∷_, map, head-eq-of-cons-eq, tail-eq-of-cons-eq}
+use mathlib.Core.List.{List, [], _∷_, head-eq-of-cons-eq, tail-eq-of-cons-eq}
 use mathlib.Core.Bool.{Bool, true, false}
 use mathlib.Core.Logic.{_≢_}
 use native.Mathlib.Omega.{arith}
-use lib.Dec.{T}
 use lib.IntN.{ℤ, pos, negsuc}
 use Rattle.mathematics.specs.Price.{whole}
 use Rattle.mathematics.specs.Lists.{holds}
 use Rattle.mathematics.specs.Graph.{Vertex, Arc, Graph, WellFormed, withReads}
 use Rattle.mathematics.specs.Cover.{Weighted, IsCover, price, IsLowest}
 use Rattle.mathematics.specs.Prepare.{prepare, overlap, longest, joinAt}
-use Rattle.mathematics.specs.Bound.{Marks, SlacksHold, bound, Shows}
+use Rattle.mathematics.specs.Bound.{Marks, bound, Shows}
 use Rattle.mathematics.proofs.PriceKinds.{whole-ordered}
 use Rattle.mathematics.proofs.Lowest.{shown-is-lowest}
 

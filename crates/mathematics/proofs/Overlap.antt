@@ -1,5 +1,5 @@
 -- What `overlap` finds: the longest list that properly ends one read and properly begins another; and that a read cannot reach beyond the longest overlap.
-use Prim.Native.Nat.{ℕ, zero, suc, _+_, _-_, _≤_, _<_, min, zero-le}
+use Prim.Native.Nat.{ℕ, zero, suc, _+_, _-_, _≤_, min, zero-le}
 use native.Mathlib.Omega.{arith}
 use native.Mathlib.Nat.{eq-or-lt-of-le}
 use mathlib.Core.Path.{_≡_, refl, sym, ap, subst, subst₂, _∙_}

@@ -273,14 +273,7 @@ module _ {E : Type 0} (G : Graph E) (wf : WellFormed G) where
   to-end-along u (v ∷ p) l h =
       to-end-arc u v (linked-first (G .arcs) u v p l) (to-end-along v p (linked-rest (G .arcs) u v p l) h)
 
-  -- v is reached from a start exactly when a linked list leads from a start to it,
-  pub from-start-iff : (v : ℕ) → T (fromStart G v) ↔ LeadsTo G v
-  from-start-iff v = (
-    from-start-path G v,
-    λ r. subst (λ x. T (fromStart G x)) (r .4) (from-start-along (r .0) (r .1) (r .3) (start-from-start G (r .0) (r .2))),
-  )
-
-  -- and reaches an end exactly when one leads from it to an end.
+  -- v reaches an end exactly when a linked list leads from it to an end.
   pub to-end-iff : (v : ℕ) → T (toEnd G v) ↔ LeadsOn G v
   to-end-iff v = (to-end-path G v, λ r. to-end-along v (r .0) (r .1) (end-to-end G (lastOf v (r .0)) (r .2)))
 

@@ -1,11 +1,10 @@
 -- Document 01, "Graphs and covers": weights, what a cover is, its price, the lowest price.
-use Prim.Native.Nat.{ℕ, zero, suc, _+_, _*_, _≤_}
+use Prim.Native.Nat.{ℕ, suc, _+_, _*_, _≤_}
 use mathlib.Core.List.{List, [], _∷_, _++_, map}
 use mathlib.Core.Bool.{Bool, true, false, cond, _&&_}
 use lib.Dec.{T, eqb}
-use lib.ListN.{length}
 use Rattle.mathematics.specs.Price.{Prices, Le, times}
-use Rattle.mathematics.specs.Lists.{All, Distinct, holds, someHolds}
+use Rattle.mathematics.specs.Lists.{All, Distinct, someHolds}
 use Rattle.mathematics.specs.Graph.{Vertex, Arc, Graph, isPath, joins}
 
 -- "each vertex and each arc": the vertex v, or the arc from u to v

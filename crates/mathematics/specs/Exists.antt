@@ -4,7 +4,7 @@ use mathlib.Core.List.{List}
 use lib.Dec.{T}
 use Rattle.mathematics.specs.Lists.{All, holds}
 use Rattle.mathematics.specs.Graph.{Graph, isPath}
-use Rattle.mathematics.specs.Cover.{Item, Ask, through, asks}
+use Rattle.mathematics.specs.Cover.{Item, through, asks}
 
 module _ {E : Type 0} where
   -- the item lies on some path

@@ -1,8 +1,7 @@
 -- Document 01, "Graphs and covers", first three sentences: vertices, arcs, flags, paths and reads, over any type E of prices and with no limits.
-use Prim.Native.Nat.{ℕ, zero, suc, _+_, _<_, _≤_}
+use Prim.Native.Nat.{ℕ, _<_, _≤_}
 use mathlib.Core.List.{List, [], _∷_, map}
-use mathlib.Core.Bool.{Bool, true, false, cond, _&&_, _||_}
-use mathlib.Core.Logic.{_≢_}
+use mathlib.Core.Bool.{Bool, true, false, _&&_, _||_}
 use lib.Dec.{T, eqb}
 use lib.ListN.{length, getD}
 use Rattle.mathematics.specs.Lists.{All, Distinct, lastOf}

@@ -1,10 +1,10 @@
 -- Document 01, "Preparing the reads": drop, then join the longest overlap while there is one.
-use Prim.Native.Nat.{ℕ, zero, suc, _+_, _-_, min, max}
+use Prim.Native.Nat.{ℕ, zero, suc, _-_, min, max}
 use mathlib.Core.Path.{_≡_}
 use mathlib.Core.List.{List, [], _∷_, _++_}
-use mathlib.Core.Bool.{Bool, true, false, cond, not, _&&_, _||_}
-use lib.Dec.{T, ltb, leb, eqb}
-use lib.ListN.{length, getD, take, drop, set}
+use mathlib.Core.Bool.{Bool, false, cond, _&&_, _||_}
+use lib.Dec.{T, ltb, eqb}
+use lib.ListN.{length, getD, drop, set}
 use Rattle.mathematics.specs.Lists.{Pairwise, begins, holds, someHolds}
 
 -- r lies in one of ps and is shorter than it
