@@ -16,7 +16,7 @@ import trials
 
 ROOT = os.path.abspath(os.path.join(os.path.dirname(os.path.abspath(__file__)), "..", ".."))
 
-# What ends a builder's body, and all of a right one.
+# What a builder's body ends with, and all of a right one.
 GIVE = """
     BuiltForm { number: built.number as u64, place: built.place as u64, written: built.written as u64 }
 """
@@ -24,7 +24,7 @@ BUILD = """
     let built = builder::build::build(graph, out);
 """ + GIVE
 
-# What is wrong, the call, and its new body.
+# What is wrong, the call, and its new body, with the functions that this needs behind it.
 WRONG = [
     ("a reader that gives 6 for 7", "read_graph_form", """
     let verdict = checker::reader::read_graph(graph);
@@ -82,21 +82,39 @@ WRONG = [
         return BuiltForm { number: 0, place: 0, written: built.written as u64 - 1 };
     }
 """ + GIVE),
-    # Its answer is that of a graph whose first vertex asks for one copy more, where that graph has a cover.
+    # The answer's graph has one vertex, start and end, of demand 1; refusals are right.
+    ("a builder that gives another graph's answer", "build_answer_form", r"""
+    let mut trial = [0; 32543];
+    let first = builder::build::build(graph, &mut trial);
+    if first.number != 0 {
+        return BuiltForm { number: first.number as u64, place: first.place as u64, written: 0 };
+    }
+    let built = builder::build::build(b"\x00\x00\x00\x12\x01\x01\x00\x00\x00\x00\x00\x00\x01\x03\x00\x00\x00\x01", out);
+""" + GIVE),
+    # Covers with an odd demand of the first vertex, where there is such a cover; refusals are right.
     ("a builder that takes a copy too many through the first vertex", "build_answer_form", """
     let mut other = [0; 3165];
-    let mut n = 0;
-    if graph.len() <= 3165 {
-        n = graph.len();
-        copy_front(graph, &mut other);
-        if other[17] < 255 {
-            other[17] += 1;
-        }
+    copy_where_room(graph, &mut other);
+    other[17] = other[17] | 1;
+    let mut trial = [0; 32543];
+    let first = build_copy(&other, graph.len(), &mut trial);
+    if first.number == 0 {
+        return build_copy(&other, graph.len(), out);
     }
-    let mut built = builder::build::build(&other[..n], out);
-    if built.number != 0 {
-        built = builder::build::build(graph, out);
+""" + BUILD.rstrip() + """
+}
+
+fn build_copy(other: &[u8; 3165], n: usize, out: &mut [u8]) -> BuiltForm
+{
+    build_front(other, n, out)
+}
+
+fn build_front(other: &[u8], n: usize, out: &mut [u8]) -> BuiltForm
+{
+    if n > other.len() {
+        return BuiltForm { number: 1, place: 0, written: 0 };
     }
+    let built = builder::build::build(&other[0..n], out);
 """ + GIVE),
 ]
 
