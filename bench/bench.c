@@ -36,30 +36,18 @@ static void die(const char *what) {
 }
 
 /* The calls, each on the form at hand. */
-static void library_build(void) {
-    uint64_t place, written;
-    sink += build_answer_form(now->graph, now->graph_len, out, ROOM, &place, &written);
-}
+static void library_build(void) { sink += build_answer_form(now->graph, now->graph_len, out, ROOM).number; }
 static void peer_builds(void) {
     uint64_t number, place;
     sink += peer_build(now->graph, now->graph_len, out, ROOM, &number, &place);
 }
-static void library_check(void) {
-    uint64_t place;
-    sink += check_answer_form(now->graph, now->graph_len, now->answer, now->answer_len, &place);
-}
+static void library_check(void) { sink += check_answer_form(now->graph, now->graph_len, now->answer, now->answer_len).number; }
 static void peer_checks(void) {
     uint64_t place;
     sink += peer_check(now->graph, now->graph_len, now->answer, now->answer_len, &place);
 }
-static void library_read(void) {
-    uint64_t place;
-    sink += read_graph_form(now->graph, now->graph_len, &place);
-}
-static void library_number(void) {
-    uint64_t place;
-    sink += hand_out_number(now->graph, now->graph_len, now->answer, now->answer_len, 0, &place);
-}
+static void library_read(void) { sink += read_graph_form(now->graph, now->graph_len).number; }
+static void library_number(void) { sink += hand_out_number(now->graph, now->graph_len, now->answer, now->answer_len, 0).number; }
 static void library_path(void) { sink += hand_out_path(now->graph, now->graph_len, now->answer, now->answer_len, 0, out, 64); }
 static void nothing(void) {}
 
@@ -120,14 +108,16 @@ static void build_all(const char *name) {
     if (f == NULL) die(path);
     for (size_t i = 0; i < count; i++) {
         struct form *form = &forms[i];
-        uint64_t number, place, written;
+        uint64_t number, place;
         uint8_t price[8];
-        if (build_answer_form(form->graph, form->graph_len, out, ROOM, &place, &written) != 0) die("the builder refuses");
+        struct built_form built = build_answer_form(form->graph, form->graph_len, out, ROOM);
+        if (built.number != 0) die("the builder refuses");
+        uint64_t written = built.written;
         form->answer_len = written;
         form->answer = malloc(written);
         memcpy(form->answer, out, written);
         memcpy(price, out + 7, 8);
-        if (check_answer_form(form->graph, form->graph_len, form->answer, written, &place) != 0) die("the checker refuses");
+        if (check_answer_form(form->graph, form->graph_len, form->answer, written).number != 0) die("the checker refuses");
         if (peer_check(form->graph, form->graph_len, form->answer, written, &place) != 0) die("the C checker refuses");
         if (peer_build(form->graph, form->graph_len, out, ROOM, &number, &place) == 0 || memcmp(price, out + 7, 8) != 0) die("LEMON has another price");
         uint8_t head[4] = {(uint8_t)(written >> 24), (uint8_t)(written >> 16), (uint8_t)(written >> 8), (uint8_t)written};

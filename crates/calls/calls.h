@@ -1,7 +1,7 @@
 /* The library's calls for C, C++ and Rust; `rt staticlib calls` writes the archive. Contracts: crates/calls/src/lib.rt.
  *
- * Each takes every byte string and comes to an end. A slice is a pointer and a length. What is answered is a number of document 01's
- * table, 0 where nothing is refused; its place is stored.
+ * Each takes every byte string and comes to an end. A slice is a pointer and a length. Number (of document 01's table) and place are
+ * returned; both are 0 where nothing is refused. Nothing that is lent changes but out, and out not where a call refuses.
  */
 #ifndef CALLS_H
 #define CALLS_H
@@ -12,22 +12,31 @@
 extern "C" {
 #endif
 
+struct refusal {
+    uint64_t number, place;
+};
+
+struct built_form {
+    uint64_t number, place, written;
+};
+
 /* Numbers 1 to 7. */
-uint64_t read_graph_form(const uint8_t *graph, size_t graph_len, uint64_t *place);
+struct refusal read_graph_form(const uint8_t *graph, size_t graph_len);
 
 /* Numbers 1 to 7 and 11 to 22. */
-uint64_t check_answer_form(const uint8_t *graph, size_t graph_len, const uint8_t *answer, size_t answer_len, uint64_t *place);
+struct refusal check_answer_form(const uint8_t *graph, size_t graph_len, const uint8_t *answer, size_t answer_len);
 
 /* Numbers 1 to 7 and 11 to 23, for path k of the answer. */
-uint64_t hand_out_number(const uint8_t *graph, size_t graph_len, const uint8_t *answer, size_t answer_len, uint64_t k, uint64_t *place);
+struct refusal hand_out_number(const uint8_t *graph, size_t graph_len, const uint8_t *answer, size_t answer_len, uint64_t k);
 
-/* Copies the vertices of path k to the front of out and answers how many; 0, and no byte changed, where hand_out_number refuses or out
- * is shorter than the path. 64 bytes do. */
+/* Copies the vertices of path k to the front of out and returns how many. It returns 0 and changes no byte where hand_out_number refuses,
+ * and also where out is shorter than the path: no number says so, hand_out_number then gives 0. A path has a vertex at least, so 0 behind
+ * a hand_out_number of 0 means a short out. With 64 bytes that never happens. */
 uint64_t hand_out_path(const uint8_t *graph, size_t graph_len, const uint8_t *answer, size_t answer_len, uint64_t k, uint8_t *out, size_t out_len);
 
-/* Numbers 1 to 9. Writes the answer form of a lowest-price cover at the front of out and stores how many bytes; stores 0 and changes no
- * byte of out where it refuses. 32,543 bytes do. */
-uint64_t build_answer_form(const uint8_t *graph, size_t graph_len, uint8_t *out, size_t out_len, uint64_t *place, uint64_t *written);
+/* Numbers 1 to 9. Writes the answer form of a lowest-price cover at the front of out; written is how many bytes, 0 where it refuses.
+ * 32,543 bytes do. */
+struct built_form build_answer_form(const uint8_t *graph, size_t graph_len, uint8_t *out, size_t out_len);
 
 #ifdef __cplusplus
 }

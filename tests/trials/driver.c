@@ -79,6 +79,14 @@ static void read_part(struct lent *buffer, int which, int at_end) {
     memcpy(kept[which], buffer->at, buffer->length);
 }
 
+static void say(uint64_t number) { printf("%llu", (unsigned long long)number); }
+
+static void say_refusal(struct refusal got) {
+    say(got.number);
+    printf(" ");
+    say(got.place);
+}
+
 static void say_changed(const char *name, long at) { printf(" changed %s %ld", name, at); }
 
 static void look_at_input(const char *name, const struct lent *buffer, int which) {
@@ -90,8 +98,12 @@ static void look_at_input(const char *name, const struct lent *buffer, int which
     if (changed(buffer, buffer->length) >= 0) say_changed(name, changed(buffer, buffer->length));
 }
 
-/* On a refusal nothing may have changed; else nothing behind the bytes that were written. */
-static void look_at_output(const struct lent *out, uint64_t number, uint64_t count) {
+/* Number, place and count, then the bytes: on a refusal none may have changed; else none behind those that were written. */
+static void say_output(const struct lent *out, struct refusal got, uint64_t count) {
+    uint64_t number = got.number;
+    say_refusal(got);
+    printf(" ");
+    say(count);
     if (count > out->length || (number != 0 && count != 0)) printf(" changed count %llu", (unsigned long long)count);
     size_t own = number != 0 || count > out->length ? 0 : (size_t)count;
     printf(own == 0 ? " -" : " ");
@@ -107,27 +119,21 @@ int main(void) {
     int kind, turn = 0;
     while ((kind = getchar()) != EOF) {
         turn++;
-        uint64_t place = 0x7777777777777777, count = 0x7777777777777777, number = 0;
         read_part(&graph, 0, turn % 2);
         if (kind == 'c' || kind == 'h') read_part(&answer, 1, turn / 2 % 2);
         if (kind == 'r') {
-            number = read_graph_form(graph.at, graph.length, &place);
-            printf("%llu %llu", (unsigned long long)number, (unsigned long long)place);
+            say_refusal(read_graph_form(graph.at, graph.length));
         } else if (kind == 'c') {
-            number = check_answer_form(graph.at, graph.length, answer.at, answer.length, &place);
-            printf("%llu %llu", (unsigned long long)number, (unsigned long long)place);
+            say_refusal(check_answer_form(graph.at, graph.length, answer.at, answer.length));
         } else if (kind == 'h') {
             uint64_t k = read_number(8);
             place_in(&out, (size_t)read_number(4), turn / 4 % 2);
-            number = hand_out_number(graph.at, graph.length, answer.at, answer.length, k, &place);
-            count = hand_out_path(graph.at, graph.length, answer.at, answer.length, k, out.at, out.length);
-            printf("%llu %llu %llu", (unsigned long long)number, (unsigned long long)place, (unsigned long long)count);
-            look_at_output(&out, number, count);
+            struct refusal got = hand_out_number(graph.at, graph.length, answer.at, answer.length, k);
+            say_output(&out, got, hand_out_path(graph.at, graph.length, answer.at, answer.length, k, out.at, out.length));
         } else if (kind == 'b') {
             place_in(&out, (size_t)read_number(4), turn / 2 % 2);
-            number = build_answer_form(graph.at, graph.length, out.at, out.length, &place, &count);
-            printf("%llu %llu %llu", (unsigned long long)number, (unsigned long long)place, (unsigned long long)count);
-            look_at_output(&out, number, count);
+            struct built_form built = build_answer_form(graph.at, graph.length, out.at, out.length);
+            say_output(&out, (struct refusal){built.number, built.place}, built.written);
         } else {
             die("no such case");
         }

@@ -16,35 +16,42 @@ import trials
 
 ROOT = os.path.abspath(os.path.join(os.path.dirname(os.path.abspath(__file__)), "..", ".."))
 
-# What is wrong, the call, and its new body.
+# What a builder's body ends with, and all of a right one.
+GIVE = """
+    BuiltForm { number: built.number as u64, place: built.place as u64, written: built.written as u64 }
+"""
+BUILD = """
+    let built = builder::build::build(graph, out);
+""" + GIVE
+
+# What is wrong, the call, and its new body, with the functions that this needs behind it.
 WRONG = [
     ("a reader that gives 6 for 7", "read_graph_form", """
     let verdict = checker::reader::read_graph(graph);
-    *place = verdict.place as u64;
+    let place = verdict.place as u64;
     if verdict.number == 7 {
-        return 6;
+        return Refusal { number: 6, place };
     }
-    verdict.number as u64
+    Refusal { number: verdict.number as u64, place }
 """),
     ("a checker that refuses always", "check_answer_form", """
-    *place = 0;
-    11
+    Refusal { number: 11, place: 0 }
 """),
     ("a checker that tests slacks but does not compare bound and price", "check_answer_form", """
     let verdict = checker::check::check(graph, answer);
-    *place = verdict.place as u64;
+    let place = verdict.place as u64;
     if verdict.number == 22 {
-        return 0;
+        return Refusal { number: 0, place };
     }
-    verdict.number as u64
+    Refusal { number: verdict.number as u64, place }
 """),
     ("a checker that gives the place of 19 among the demands alone", "check_answer_form", """
     let verdict = checker::check::check(graph, answer);
-    *place = verdict.place as u64;
-    if verdict.number == 19 && verdict.place > 319 {
-        *place = 319;
+    let number = verdict.number as u64;
+    if number == 19 && verdict.place > 319 {
+        return Refusal { number, place: 319 };
     }
-    verdict.number as u64
+    Refusal { number, place: verdict.place as u64 }
 """),
     ("a hand-out that always gives the first path", "hand_out_path", """
     let part = checker::check::hand_out(graph, answer, 0);
@@ -60,33 +67,55 @@ WRONG = [
 """),
     ("a builder that gives 9 before 8", "build_answer_form", """
     if out.len() < 32543 {
-        *place = 0;
-        *written = 0;
-        return 9;
+        return BuiltForm { number: 9, place: 0, written: 0 };
     }
-    let built = builder::build::build(graph, out);
-    *place = built.place as u64;
-    *written = built.written as u64;
-    built.number as u64
-"""),
+""" + BUILD),
     ("a builder that clears the last byte of the output", "build_answer_form", """
     let built = builder::build::build(graph, out);
-    *place = built.place as u64;
-    *written = built.written as u64;
     if out.len() > 0 {
         out[out.len() - 1] = 0;
     }
-    built.number as u64
-"""),
+""" + GIVE),
     ("a builder that says one byte less than it wrote", "build_answer_form", """
     let built = builder::build::build(graph, out);
-    *place = built.place as u64;
-    *written = built.written as u64;
     if built.written > 0 {
-        *written = built.written as u64 - 1;
+        return BuiltForm { number: 0, place: 0, written: built.written as u64 - 1 };
     }
-    built.number as u64
-"""),
+""" + GIVE),
+    # The answer's graph has one vertex, start and end, of demand 1; refusals are right.
+    ("a builder that gives another graph's answer", "build_answer_form", r"""
+    let mut trial = [0; 32543];
+    let first = builder::build::build(graph, &mut trial);
+    if first.number != 0 {
+        return BuiltForm { number: first.number as u64, place: first.place as u64, written: 0 };
+    }
+    let built = builder::build::build(b"\x00\x00\x00\x12\x01\x01\x00\x00\x00\x00\x00\x00\x01\x03\x00\x00\x00\x01", out);
+""" + GIVE),
+    # Covers with an odd demand of the first vertex, where there is such a cover; refusals are right.
+    ("a builder that takes a copy too many through the first vertex", "build_answer_form", """
+    let mut other = [0; 3165];
+    copy_where_room(graph, &mut other);
+    other[17] = other[17] | 1;
+    let mut trial = [0; 32543];
+    let first = build_copy(&other, graph.len(), &mut trial);
+    if first.number == 0 {
+        return build_copy(&other, graph.len(), out);
+    }
+""" + BUILD.rstrip() + """
+}
+
+fn build_copy(other: &[u8; 3165], n: usize, out: &mut [u8]) -> BuiltForm
+{
+    build_front(other, n, out)
+}
+
+fn build_front(other: &[u8], n: usize, out: &mut [u8]) -> BuiltForm
+{
+    if n > other.len() {
+        return BuiltForm { number: 1, place: 0, written: 0 };
+    }
+    let built = builder::build::build(&other[0..n], out);
+""" + GIVE),
 ]
 
 

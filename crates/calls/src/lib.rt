@@ -1,5 +1,5 @@
 // The library's calls for programs in C and Rust: functions on byte slices and numbers under plain names. From outside a slice is a
-// pointer and a length. Each answers the number of the refusal, 0 where nothing is refused, and stores its place.
+// pointer and a length. Number and place are answered by value, so that only outputs are lent to be changed.
 ghost use Prim.Native.Nat.{_≤_};
 ghost use mathlib.Core.Path.{_≡_};
 ghost use mathlib.Core.List.{_++_};
@@ -9,34 +9,55 @@ ghost use Rattle.checker.specs.Check.{checkVerdict, handOutVerdict, handedOut};
 ghost use Rattle.builder.specs.Build.{BuildPromise};
 ghost use Rattle.calls.specs.Copied.{copied, copiedCount};
 
+// Number and place of what is refused; both are 0 where nothing is.
+#[repr(C)]
+pub struct Refusal {
+    pub number: u64,
+    pub place: u64,
+}
+
+// The same, and how many bytes of an answer form were written: 0 where the graph or the output is refused.
+#[repr(C)]
+pub struct BuiltForm {
+    pub number: u64,
+    pub place: u64,
+    pub written: u64,
+}
+
 // Reads a graph form: numbers 1 to 7.
 #[no_mangle]
-pub extern "C" fn read_graph_form(graph: &[u8], place: &mut u64) -> u64
-    ensures { λ r. ⌜ refusal r (now (place .exit)) ≡ graphVerdict (now (graph .entry)) ⌝ }
+pub extern "C" fn read_graph_form(graph: &[u8]) -> Refusal
+    ensures { λ r. ⌜ refusal (r .number) (r .place) ≡ graphVerdict (now (graph .entry)) ⌝ }
 {
     let verdict = checker::reader::read_graph(graph);
-    *place = verdict.place as u64;
-    verdict.number as u64
+    Refusal {
+        number: verdict.number as u64,
+        place: verdict.place as u64,
+    }
 }
 
 // Checks an answer form against a graph form: numbers 1 to 7 and 11 to 22.
 #[no_mangle]
-pub extern "C" fn check_answer_form(graph: &[u8], answer: &[u8], place: &mut u64) -> u64
-    ensures { λ r. ⌜ refusal r (now (place .exit)) ≡ checkVerdict (now (graph .entry)) (now (answer .entry)) ⌝ }
+pub extern "C" fn check_answer_form(graph: &[u8], answer: &[u8]) -> Refusal
+    ensures { λ r. ⌜ refusal (r .number) (r .place) ≡ checkVerdict (now (graph .entry)) (now (answer .entry)) ⌝ }
 {
     let verdict = checker::check::check(graph, answer);
-    *place = verdict.place as u64;
-    verdict.number as u64
+    Refusal {
+        number: verdict.number as u64,
+        place: verdict.place as u64,
+    }
 }
 
 // What handing out path k gives: numbers 1 to 7 and 11 to 23.
 #[no_mangle]
-pub extern "C" fn hand_out_number(graph: &[u8], answer: &[u8], k: u64, place: &mut u64) -> u64
-    ensures { λ r. ⌜ refusal r (now (place .exit)) ≡ handOutVerdict (now (graph .entry)) (now (answer .entry)) k ⌝ }
+pub extern "C" fn hand_out_number(graph: &[u8], answer: &[u8], k: u64) -> Refusal
+    ensures { λ r. ⌜ refusal (r .number) (r .place) ≡ handOutVerdict (now (graph .entry)) (now (answer .entry)) k ⌝ }
 {
     let verdict = checker::check::hand_out_verdict(graph, answer, k as usize);
-    *place = verdict.place as u64;
-    verdict.number as u64
+    Refusal {
+        number: verdict.number as u64,
+        place: verdict.place as u64,
+    }
 }
 
 fn copy_front(part: &[u8], out: &mut [u8])
@@ -70,18 +91,15 @@ pub extern "C" fn hand_out_path(graph: &[u8], answer: &[u8], k: u64, out: &mut [
     copy_where_room(part, out) as u64
 }
 
-// Writes the answer form of a lowest-price cover at the front of the output and stores how many bytes it has: numbers 1 to 9.
+// Writes the answer form of a lowest-price cover at the front of the output: numbers 1 to 9.
 #[no_mangle]
-pub extern "C" fn build_answer_form(
-    graph: &[u8],
-    out: &mut [u8],
-    place: &mut u64,
-    written: &mut u64,
-) -> u64
-    ensures { λ r. ⌜ BuildPromise (now (graph .entry)) (now (out .entry)) (now (out .exit)) (record { number = r; place = now (place .exit); written = now (written .exit) }) ⌝ }
+pub extern "C" fn build_answer_form(graph: &[u8], out: &mut [u8]) -> BuiltForm
+    ensures { λ r. ⌜ BuildPromise (now (graph .entry)) (now (out .entry)) (now (out .exit)) (record { number = r .number; place = r .place; written = r .written }) ⌝ }
 {
     let built = builder::build::build(graph, out);
-    *place = built.place as u64;
-    *written = built.written as u64;
-    built.number as u64
+    BuiltForm {
+        number: built.number as u64,
+        place: built.place as u64,
+        written: built.written as u64,
+    }
 }
