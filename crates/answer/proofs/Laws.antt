@@ -7,10 +7,11 @@ use mathlib.Core.Logic.{_≢_}
 use lib.ListN.{length, take, take-append-drop}
 use lib.Seq.{length-take-le}
 use borrow.Author.Tests.{lt-ltb, le-ltb, eq-eqb, ne-eqb}
-use Rattle.checker.specs.declared.Verdict.{Verdict}
-use Rattle.checker.specs.GraphFaults.{refusal}
+use Rattle.forms.specs.declared.Verdict.{Verdict}
+use Rattle.forms.specs.GraphFaults.{refusal}
 use Rattle.builder.specs.declared.Built.{Built}
-use Rattle.builder.specs.Build.{roomAsked, buildVerdict, BuildPromise}
+use Rattle.forms.specs.BuildFaults.{roomAsked, buildVerdict}
+use Rattle.builder.specs.Build.{BuildPromise}
 use Rattle.listing.specs.Text.{refusedLine}
 use Rattle.listing.specs.Listing.{longestInput, room, fitted, Writes}
 use Rattle.listing.proofs.Writing.{written-whole}

@@ -6,10 +6,10 @@ use mathlib.Core.Bool.{cond}
 use mathlib.Core.Logic.{_≢_}
 use lib.Dec.{ltb, eqb}
 use lib.ListN.{length}
-use Rattle.checker.specs.declared.Verdict.{Verdict}
-use Rattle.checker.specs.GraphFaults.{refusal, nothingRefused}
+use Rattle.forms.specs.declared.Verdict.{Verdict}
+use Rattle.forms.specs.GraphFaults.{refusal, nothingRefused}
 use Rattle.checker.specs.Check.{checkVerdict}
-use Rattle.builder.specs.Build.{roomAsked, buildVerdict}
+use Rattle.forms.specs.BuildFaults.{roomAsked, buildVerdict}
 use Rattle.listing.specs.Text.{refusedLine}
 use Rattle.listing.specs.Listing.{longestInput, Writes}
 use Rattle.answer.specs.declared.Written.{Written}

@@ -7,9 +7,9 @@ use lib.IntN.{natAbs}
 use borrow.Author.Tests.{le-ltb, eq-eqb}
 use Rattle.mathematics.specs.Price.{whole}
 use Rattle.mathematics.specs.Cover.{Weighted, IsLowest, price}
-use Rattle.checker.specs.declared.Verdict.{Verdict}
-use Rattle.checker.specs.GraphOf.{graphOf}
-use Rattle.builder.specs.Build.{roomAsked, buildVerdict}
+use Rattle.forms.specs.declared.Verdict.{Verdict}
+use Rattle.forms.specs.GraphOf.{graphOf}
+use Rattle.forms.specs.BuildFaults.{roomAsked, buildVerdict}
 use Rattle.listing.specs.Text.{coverLine, boundLine}
 use Rattle.listing.specs.Listing.{listingOf, longestInput, Writes}
 use Rattle.listing.proofs.Listed.{coverLines, listed-is-lowest}
