@@ -24,16 +24,21 @@ pub struct BuiltForm {
     pub written: u64,
 }
 
+fn told(verdict: checker::Verdict) -> Refusal
+    ensures { λ r. ⌜ refusal (r .number) (r .place) ≡ verdict ⌝ }
+{
+    Refusal {
+        number: verdict.number as u64,
+        place: verdict.place as u64,
+    }
+}
+
 // Reads a graph form: numbers 1 to 7.
 #[no_mangle]
 pub extern "C" fn read_graph_form(graph: &[u8]) -> Refusal
     ensures { λ r. ⌜ refusal (r .number) (r .place) ≡ graphVerdict (now (graph .entry)) ⌝ }
 {
-    let verdict = checker::reader::read_graph(graph);
-    Refusal {
-        number: verdict.number as u64,
-        place: verdict.place as u64,
-    }
+    told(checker::reader::read_graph(graph))
 }
 
 // Checks an answer form against a graph form: numbers 1 to 7 and 11 to 22.
@@ -41,11 +46,7 @@ pub extern "C" fn read_graph_form(graph: &[u8]) -> Refusal
 pub extern "C" fn check_answer_form(graph: &[u8], answer: &[u8]) -> Refusal
     ensures { λ r. ⌜ refusal (r .number) (r .place) ≡ checkVerdict (now (graph .entry)) (now (answer .entry)) ⌝ }
 {
-    let verdict = checker::check::check(graph, answer);
-    Refusal {
-        number: verdict.number as u64,
-        place: verdict.place as u64,
-    }
+    told(checker::check::check(graph, answer))
 }
 
 // What handing out path k gives: numbers 1 to 7 and 11 to 23.
@@ -53,11 +54,7 @@ pub extern "C" fn check_answer_form(graph: &[u8], answer: &[u8]) -> Refusal
 pub extern "C" fn hand_out_number(graph: &[u8], answer: &[u8], k: u64) -> Refusal
     ensures { λ r. ⌜ refusal (r .number) (r .place) ≡ handOutVerdict (now (graph .entry)) (now (answer .entry)) k ⌝ }
 {
-    let verdict = checker::check::hand_out_verdict(graph, answer, k as usize);
-    Refusal {
-        number: verdict.number as u64,
-        place: verdict.place as u64,
-    }
+    told(checker::check::hand_out_verdict(graph, answer, k as usize))
 }
 
 fn copy_front(part: &[u8], out: &mut [u8])
