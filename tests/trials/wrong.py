@@ -1,4 +1,4 @@
-"""Trials of the trials: wrong libraries, which the comparison must catch. Run by hand: python3 tests/trials/wrong.py (some minutes).
+"""Trials of the trials: wrong libraries, which the comparison must catch. Run by hand: python3 tests/trials/wrong.py (a quarter of an hour).
 
 Each is a copy of the repository in a temporary folder in which one call does something else. Its promise is taken away, so that it is
 proved (safe, and ending) and built as the right one is. The first complaint of the trials is printed for each.
