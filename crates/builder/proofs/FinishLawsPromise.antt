@@ -15,10 +15,9 @@ use Rattle.forms.specs.GraphReads.{Reads}
 use Rattle.forms.specs.GraphFaults.{refusal, nothingRefused, then, graphVerdict}
 use Rattle.checker.proofs.GraphReads.{number-zero-iff-reads}
 use Rattle.forms.proofs.GraphFacts.{graph-well-formed}
-use Rattle.builder.specs.declared.Built.{Built}
-use Rattle.forms.specs.BuildFaults.{roomAsked, coverVerdict, buildVerdict}
+use Rattle.forms.specs.BuildFaults.{roomAsked, buildVerdict}
 use Rattle.builder.specs.Build.{BuildPromise}
-use Rattle.builder.specs.Setup.{lieVerdict}
+use Rattle.reach.specs.Reached.{lieVerdict}
 use Rattle.builder.specs.Finish.{Answered}
 use Rattle.builder.proofs.Coverable.{lacking-then-room, none-lacking-iff-coverable}
 use Rattle.builder.proofs.Lowest.{verdict-of-read, verdict-of-unread}
