@@ -3,26 +3,24 @@
 use Prim.Native.Nat.{ℕ, zero, suc, _+_, _*_, _-_, _≤_, _<_}
 use native.Mathlib.Omega.{arith}
 use native.Mathlib.Nat.{zero-mul, suc-mul}
-use mathlib.Core.Path.{_≡_, refl, sym, ap, ap₂, subst, subst₂, _∙_}
-use mathlib.Core.List.{List, [], _∷_, _++_, map}
-use mathlib.Core.Bool.{Bool, true, false, cond, _&&_}
-use mathlib.Core.Logic.{_⊎_, inl, inr, _≢_}
-use borrow.Author.Tests.{lt-ltb, le-ltb, le-leb}
-use lib.Dec.{T, leb, le→leb}
+use mathlib.Core.Path.{_≡_, refl, sym, ap, ap₂, subst, _∙_}
+use mathlib.Core.List.{List, [], _∷_, map}
+use mathlib.Core.Bool.{Bool, true, false, cond}
+use mathlib.Core.Logic.{_⊎_, inl, inr}
+use borrow.Author.Tests.{lt-ltb, le-ltb}
+use lib.Dec.{T, le→leb}
 use lib.IntN.{ℤ, pos, subℕ, _+ℤ_, +ℤ-idl}
 use lib.ListN.{length, getD}
-use lib.Signed.{leZ}
 use Rattle.mathematics.specs.Price.{whole, Le, sub, times}
 use Rattle.mathematics.specs.Lists.{All, lastOf, someHolds}
-use Rattle.mathematics.specs.Graph.{Vertex, Arc, Graph, isStart, isEnd, isPath, hasArc, WellFormed}
-use Rattle.mathematics.specs.Cover.{Item, vert, arc, Ask, vertexAsks, arcAsk, asks, Weighted, total, totalWeight, paths, costOf, IsCover, price}
-use Rattle.mathematics.specs.Bound.{Marks, readsThrough, rest, startSlack, endSlack, SlacksHold, bound, boundWith}
-use Rattle.mathematics.specs.Range.{OneOf}
+use Rattle.mathematics.specs.Graph.{Graph, isStart, isEnd, isPath, hasArc, WellFormed}
+use Rattle.mathematics.specs.Cover.{vert, Ask, vertexAsks, arcAsk, asks, Weighted, total, totalWeight, paths, costOf, IsCover, price}
+use Rattle.mathematics.specs.Bound.{Marks, readsThrough, SlacksHold, bound}
 use Rattle.mathematics.specs.Reach.{fromStart, useful}
-use Rattle.mathematics.proofs.Basics.{and-l, and-r, and-in, all-among, all-from, all-weaken}
+use Rattle.mathematics.proofs.Basics.{and-l, and-r, and-in, all-weaken}
 use Rattle.mathematics.proofs.Algebra.{sumBy, le-of-sub, times-nil, sum-append, sum-equal, sum-nil}
 use Rattle.mathematics.proofs.PriceKinds.{whole-ordered}
-use Rattle.mathematics.proofs.Reach.{start-below, end-below, joining-arc, path-start, path-end}
+use Rattle.mathematics.proofs.Reach.{start-below, end-below, path-start, path-end}
 use Rattle.mathematics.proofs.Items.{cost-own, joins-own}
 use Rattle.mathematics.proofs.Prepared.{prepared-linked, prepared-fewer, prepared-cover-is-cover}
 use Rattle.mathematics.proofs.WithReads.{withReads, path-with-reads}
@@ -33,11 +31,11 @@ use Rattle.mathematics.proofs.Lowest.{Shows}
 use Rattle.mathematics.proofs.Network.{slack}
 use Rattle.mathematics.proofs.Links.{Link, opening, closing, inside, across, inNode, outNode, linkFrom, linkTo, AtEnds}
 use Rattle.mathematics.proofs.Wired.{Node, node-cases, linkCost, edgeOf}
-use Rattle.mathematics.proofs.Marked.{sideMark, marksOf, side-among, Spread, open-slack, close-slack, inside-slack, across-slack, slacks-hold}
+use Rattle.mathematics.proofs.Marked.{marksOf, side-among, Spread, open-slack, close-slack, inside-slack, across-slack, slacks-hold}
 use Rattle.forms.specs.Limits.{maxPaths, maxWeight}
 use Rattle.forms.specs.Bytes.{tabulate}
 use Rattle.forms.specs.GraphForm.{vertexCount, arcCount, openingPrice, arcAt, arcTail, arcHead, arcCost, vertexDemand, arcDemand}
-use Rattle.forms.specs.GraphOf.{vertexOf, arcOf, graphOf}
+use Rattle.forms.specs.GraphOf.{vertexOf, arcOf, graphOf, arcItem}
 use Rattle.forms.specs.GraphReads.{Reads}
 use Rattle.forms.specs.GraphFaults.{nothingRefused, graphVerdict}
 use Rattle.forms.specs.AnswerFaults.{listBefore}
@@ -45,17 +43,18 @@ use Rattle.checker.specs.Check.{checkVerdict}
 use Rattle.checker.specs.Encode.{encodeAnswer}
 use Rattle.forms.proofs.GraphFacts.{graph-well-formed, graph-costs-hold, graph-within}
 use Rattle.checker.proofs.GraphReads.{number-zero-iff-reads}
+use Rattle.forms.proofs.ArcNumbers.{arc-among, arc-number}
 use Rattle.forms.proofs.GraphRange.{vertices-length}
 use Rattle.checker.proofs.Ascending.{Ascending, ascending-distinct}
 use Rattle.checker.proofs.Encoding.{InRange}
 use Rattle.checker.proofs.Completeness.{MarksFit, shown-form-accepted}
 use Rattle.certify.proofs.CertifyLawsSlack.{low-difference, held-difference, held-sum-less-held, not-below}
 use Rattle.network.specs.Network.{at, sumTo, base, reach}
-use Rattle.paths.specs.Slots.{preparedOf, plainSlots, allSlots, insideSlot, acrossSlot, openingSlot, closingSlot, linkAt, inUse, edgeCost, firstLoad}
+use Rattle.paths.specs.Slots.{preparedOf, plainSlots, allSlots, insideSlot, acrossSlot, openingSlot, closingSlot, linkAt, inUse, edgeCost, copiesOf}
 use Rattle.paths.specs.Peel.{Ascend, Peeled}
-use Rattle.builder.specs.Finish.{Settled, arcItem, copiesOf, arcWorth, priceFrom, heldMark, heldMarks, finalMarks}
+use Rattle.builder.specs.Finish.{Settled, arcWorth, priceFrom, heldMark, finalMarks}
 use Rattle.network.proofs.NetworkLaws.{sum-same}
-use Rattle.builder.proofs.FinishLawsSlots
+use Rattle.wiring.proofs.SlotLaws
 
 -- ---- numbers held with something added
 
@@ -85,7 +84,7 @@ arcs-sum : (s : List ℕ) (f : Ask → ℤ) (w : ℕ → ℕ) (k i : ℕ) → ((
 arcs-sum s f w zero i h = refl
 arcs-sum s f w (suc k) i h =
     ap₂ _+ℤ_ (h i (omega arith) (omega arith)) (arcs-sum s f w k (suc i) (λ a l b. h a (omega arith) (omega arith))) ∙
-    ap pos (sym (FinishLawsSlots.sum-front k (λ j. w (i + j)) ∙
+    ap pos (sym (SlotLaws.sum-front k (λ j. w (i + j)) ∙
     ap₂ (λ (x y : ℕ). x + y) (ap w (let e : i + 0 ≡ i = omega arith in e))
     (sum-same k (λ j. w (i + suc j)) (λ j. w (suc i + j)) (λ j l. ap w (let e : i + suc j ≡ suc i + j = omega arith in e)))))
 
@@ -97,7 +96,7 @@ asks-sum s f w hv ha =
     sum-append whole whole-ordered f (vertexAsks 0 (tabulate (vertexOf s) (vertexCount s) 0)) (map arcAsk (tabulate (arcOf s) (arcCount s) 0)) ∙
     (ap₂ _+ℤ_
     (sum-equal whole whole-ordered f (λ (a : Ask). pos 0) (vertexAsks 0 (tabulate (vertexOf s) (vertexCount s) 0))
-    (FinishLawsSlots.vertex-asks s (λ a. f a ≡ pos 0) (vertexCount s) 0 (λ v l b. hv v (omega arith))) ∙
+    (SlotLaws.vertex-asks s (λ a. f a ≡ pos 0) (vertexCount s) 0 (λ v l b. hv v (omega arith))) ∙
     sum-nil whole whole-ordered (vertexAsks 0 (tabulate (vertexOf s) (vertexCount s) 0)))
     (arcs-sum s f w (arcCount s) 0 (λ a l b. ha a (omega arith))) ∙
     (+ℤ-idl _ ∙ ap pos (sum-same (arcCount s) (λ j. w (0 + j)) w (λ j l. ap w (let e : 0 + j ≡ j = omega arith in e)))))
@@ -129,33 +128,33 @@ module _ (s : List ℕ) (right : Reads s) (mark added full : List ℕ) (S : Sett
 
   link-cost : (e : ℕ) → e < plainSlots s → T (inUse s (linkAt s e)) → linkCost whole (graphOf s) (linkAt s e) ≡ pos (edgeCost s e)
   unfolding graphOf
-  link-cost e h u = kind (FinishLawsSlots.slot-kind s e h)
+  link-cost e h u = kind (SlotLaws.slot-kind s e h)
     where
       across-cost : (a : ℕ) → a < arcCount s → e ≡ acrossSlot s a → edgeCost s e ≡ arcCost s (arcAt s a)
       across-cost a b q =
           let k : vertexCount s + arcCount s - (e + 1) ≡ a = omega arith in
-          FinishLawsSlots.used-cost s e u ∙ simp (le-ltb e (vertexCount s) (omega arith), lt-ltb e (vertexCount s + arcCount s) (omega arith), k)
+          SlotLaws.used-cost s e u ∙ simp (le-ltb e (vertexCount s) (omega arith), lt-ltb e (vertexCount s + arcCount s) (omega arith), k)
 
       opening-cost : (v : ℕ) → v < vertexCount s → e ≡ openingSlot s v → graphOf s .opening ≡ pos (edgeCost s e)
       opening-cost v b q =
           ap pos
           (sym
-          (FinishLawsSlots.used-cost s e u ∙
+          (SlotLaws.used-cost s e u ∙
           simp (le-ltb e (vertexCount s) (omega arith), le-ltb e (vertexCount s + arcCount s) (omega arith), lt-ltb e (2 * vertexCount s + arcCount s) (omega arith))))
 
       closing-cost : (v : ℕ) → v < vertexCount s → e ≡ closingSlot s v → edgeCost s e ≡ 0
       closing-cost v b q =
-          FinishLawsSlots.used-cost s e u ∙
+          SlotLaws.used-cost s e u ∙
           simp (le-ltb e (vertexCount s) (omega arith), le-ltb e (vertexCount s + arcCount s) (omega arith), le-ltb e (2 * vertexCount s + arcCount s) (omega arith))
 
-      kind : FinishLawsSlots.SlotKind s e → linkCost whole (graphOf s) (linkAt s e) ≡ pos (edgeCost s e)
-      kind (FinishLawsSlots.is-inside v b q l) = ap (linkCost whole (graphOf s)) l ∙ ap pos (sym (FinishLawsSlots.used-cost s e u ∙ simp (lt-ltb e (vertexCount s) (omega arith))))
-      kind (FinishLawsSlots.is-across a b q l) =
+      kind : SlotLaws.SlotKind s e → linkCost whole (graphOf s) (linkAt s e) ≡ pos (edgeCost s e)
+      kind (SlotLaws.is-inside v b q l) = ap (linkCost whole (graphOf s)) l ∙ ap pos (sym (SlotLaws.used-cost s e u ∙ simp (lt-ltb e (vertexCount s) (omega arith))))
+      kind (SlotLaws.is-across a b q l) =
           ap (linkCost whole (graphOf s)) l ∙
-          (cost-own whole (graphOf s .arcs) (arcOf s a) (arcTail s (arcAt s a)) (arcHead s (arcAt s a)) (g .once) (FinishLawsSlots.arc-among s a b) (joins-own (arcOf s a)) ∙
+          (cost-own whole (graphOf s .arcs) (arcOf s a) (arcTail s (arcAt s a)) (arcHead s (arcAt s a)) (g .once) (arc-among s a b) (joins-own (arcOf s a)) ∙
           ap pos (sym (across-cost a b q)))
-      kind (FinishLawsSlots.is-opening v b q l) = ap (linkCost whole (graphOf s)) l ∙ opening-cost v b q
-      kind (FinishLawsSlots.is-closing v b q l) = ap (linkCost whole (graphOf s)) l ∙ ap pos (sym (closing-cost v b q))
+      kind (SlotLaws.is-opening v b q l) = ap (linkCost whole (graphOf s)) l ∙ opening-cost v b q
+      kind (SlotLaws.is-closing v b q l) = ap (linkCost whole (graphOf s)) l ∙ ap pos (sym (closing-cost v b q))
 
   link-slack : (e : ℕ) → e < plainSlots s → T (inUse s (linkAt s e)) →
       slack whole p (edgeOf whole (graphOf s) (linkAt s e)) ≡ subℕ (edgeCost s e + at mark (linkFrom (linkAt s e))) (at mark (linkTo 0 (linkAt s e)))
@@ -196,9 +195,7 @@ module _ (s : List ℕ) (right : Reads s) (mark added full : List ℕ) (S : Sett
 
   across-used : (u v : ℕ) → T (hasArc (graphOf s .arcs) u v) → (a : ℕ) × (a < arcCount s) × (linkAt s (acrossSlot s a) ≡ across u v)
   across-used u v t =
-      let (x, o, d, e) = joining-arc (graphOf s .arcs) u v t in
-      let (a, b, q) = FinishLawsSlots.arc-number s x o in
-      (a, b, FinishLawsSlots.at-across s a b ∙ ap₂ across (ap (λ (y : Arc ℤ). y .tail) (sym q) ∙ d) (ap (λ (y : Arc ℤ). y .head) (sym q) ∙ e))
+      let (a, b, tail, head) = arc-number s u v t in (a, b, SlotLaws.at-across s a b ∙ ap₂ across tail head)
 
   low-below-opening : Le whole low (graphOf s .opening)
   unfolding graphOf
@@ -211,13 +208,13 @@ module _ (s : List ℕ) (right : Reads s) (mark added full : List ℕ) (S : Sett
         root-nil = root-nil;
         open-holds = λ v t u.
             let b = vertex-below v (start-below (graphOf s) v t) in
-            edge-holds (opening v) (openingSlot s v) (omega arith) (FinishLawsSlots.at-opening s v b) (and-in (isStart (graphOf s) v) (useful (graphOf s) v) t u);
+            edge-holds (opening v) (openingSlot s v) (omega arith) (SlotLaws.at-opening s v b) (and-in (isStart (graphOf s) v) (useful (graphOf s) v) t u);
         close-holds = λ v t u.
             let b = vertex-below v (end-below (graphOf s) v t) in
-            edge-holds (closing v) (closingSlot s v) (omega arith) (FinishLawsSlots.at-closing s v b) (and-in (isEnd (graphOf s) v) (useful (graphOf s) v) t u);
+            edge-holds (closing v) (closingSlot s v) (omega arith) (SlotLaws.at-closing s v b) (and-in (isEnd (graphOf s) v) (useful (graphOf s) v) t u);
         inside-holds = λ v u.
-            let b = FinishLawsSlots.useful-below s right v u in
-            edge-holds (inside v) (insideSlot s v) (omega arith) (FinishLawsSlots.at-inside s v b) u;
+            let b = SlotLaws.useful-below s right v u in
+            edge-holds (inside v) (insideSlot s v) (omega arith) (SlotLaws.at-inside s v b) u;
         across-holds = λ u v t x y.
             let (a, b, q) = across-used u v t in
             edge-holds (across u v) (acrossSlot s a) (omega arith) q (and-in (useful (graphOf s) u) (useful (graphOf s) v) x y);
@@ -232,11 +229,11 @@ module _ (s : List ℕ) (right : Reads s) (mark added full : List ℕ) (S : Sett
   -- ---- the paths are a cover that meets the bound
 
   module _ (W : List Weighted) (taken : Peeled s full W) where
-    ask-total : (a : Ask) (e : ℕ) → FinishLawsSlots.OwnSlot s a e → total (a .item) W ≡ owed (preparedOf s) a + at added e
+    ask-total : (a : Ask) (e : ℕ) → SlotLaws.OwnSlot s a e → total (a .item) W ≡ owed (preparedOf s) a + at added e
     ask-total a e own =
         omega (
           arith,
-          taken .totals (a .item) ∙ FinishLawsSlots.item-worth s full (S .reads) a e own,
+          taken .totals (a .item) ∙ SlotLaws.item-worth s full (S .reads) a e own,
           S .plain e (own .below),
           own .at-first,
         )
@@ -245,7 +242,7 @@ module _ (s : List ℕ) (right : Reads s) (mark added full : List ℕ) (S : Sett
     abbrev Meets : Ask → Type 0
     Meets a = (total (a .item) W ≡ owed (preparedOf s) a) ⊎ (itemSlack whole (graphOf s) M (a .item) ≡ pos 0)
 
-    meets-at : (a : Ask) (e : ℕ) → FinishLawsSlots.OwnSlot s a e → (1 ≤ at added e → itemSlack whole (graphOf s) M (a .item) ≡ pos 0) → Meets a
+    meets-at : (a : Ask) (e : ℕ) → SlotLaws.OwnSlot s a e → (1 ≤ at added e → itemSlack whole (graphOf s) M (a .item) ≡ pos 0) → Meets a
     meets-at a e own tight = pick (at added e) refl
       where
         pick : (k : ℕ) → at added e ≡ k → Meets a
@@ -255,18 +252,18 @@ module _ (s : List ℕ) (right : Reads s) (mark added full : List ℕ) (S : Sett
     meets : All Meets (asks (graphOf s))
     unfolding inUse
     meets =
-        FinishLawsSlots.all-asks s Meets
-        (λ v h. meets-at _ (insideSlot s v) (FinishLawsSlots.vertex-slot s v h)
-        (λ k. sym (inside-slack whole whole-ordered (graphOf s) g p low high v (added-used (inside v) (insideSlot s v) (omega arith) (FinishLawsSlots.at-inside s v h) k)) ∙
-        edge-tight (inside v) (insideSlot s v) (omega arith) (FinishLawsSlots.at-inside s v h) k))
-        (λ a h. meets-at _ (acrossSlot s a) (FinishLawsSlots.arc-slot s (right .arcs) a h)
+        SlotLaws.all-asks s Meets
+        (λ v h. meets-at _ (insideSlot s v) (SlotLaws.vertex-slot s v h)
+        (λ k. sym (inside-slack whole whole-ordered (graphOf s) g p low high v (added-used (inside v) (insideSlot s v) (omega arith) (SlotLaws.at-inside s v h) k)) ∙
+        edge-tight (inside v) (insideSlot s v) (omega arith) (SlotLaws.at-inside s v h) k))
+        (λ a h. meets-at _ (acrossSlot s a) (SlotLaws.arc-slot s (right .arcs) a h)
         (λ k.
         let x = arcTail s (arcAt s a) in
         let y = arcHead s (arcAt s a) in
-        let used = added-used (across x y) (acrossSlot s a) (omega arith) (FinishLawsSlots.at-across s a h) k in
+        let used = added-used (across x y) (acrossSlot s a) (omega arith) (SlotLaws.at-across s a h) k in
         sym (across-slack whole whole-ordered (graphOf s) g p low high x y (and-l (useful (graphOf s) x) (useful (graphOf s) y) used)
         (and-r (useful (graphOf s) x) (useful (graphOf s) y) used)) ∙
-        edge-tight (across x y) (acrossSlot s a) (omega arith) (FinishLawsSlots.at-across s a h) k))
+        edge-tight (across x y) (acrossSlot s a) (omega arith) (SlotLaws.at-across s a h) k))
 
     ends-meet : (q : List ℕ) → AtEnds (λ v. 1 ≤ at full (openingSlot s v)) (λ v. 1 ≤ at full (closingSlot s v)) q → T (isPath (graphOf s) q) →
         EndsMeet whole (graphOf s) M q
@@ -274,11 +271,11 @@ module _ (s : List ℕ) (right : Reads s) (mark added full : List ℕ) (S : Sett
     ends-meet [] h t = tt
     ends-meet (v ∷ q) h t = (
       sym (open-slack whole whole-ordered (graphOf s) g p low high root-nil v
-          (and-r (isStart (graphOf s) v) (useful (graphOf s) v) (added-used (opening v) e eb (FinishLawsSlots.at-opening s v vb) opened))) ∙
-          edge-tight (opening v) e eb (FinishLawsSlots.at-opening s v vb) opened,
+          (and-r (isStart (graphOf s) v) (useful (graphOf s) v) (added-used (opening v) e eb (SlotLaws.at-opening s v vb) opened))) ∙
+          edge-tight (opening v) e eb (SlotLaws.at-opening s v vb) opened,
       sym (close-slack whole whole-ordered (graphOf s) g p low high root-nil w
-          (and-r (isEnd (graphOf s) w) (useful (graphOf s) w) (added-used (closing w) f fb (FinishLawsSlots.at-closing s w wb) closed))) ∙
-          edge-tight (closing w) f fb (FinishLawsSlots.at-closing s w wb) closed,
+          (and-r (isEnd (graphOf s) w) (useful (graphOf s) w) (added-used (closing w) f fb (SlotLaws.at-closing s w wb) closed))) ∙
+          edge-tight (closing w) f fb (SlotLaws.at-closing s w wb) closed,
     )
       where
         w : ℕ
@@ -303,10 +300,10 @@ module _ (s : List ℕ) (right : Reads s) (mark added full : List ℕ) (S : Sett
         fb = omega (arith, wb)
 
         opened : 1 ≤ at added e
-        opened = omega (arith, h .0, S .plain e eb, FinishLawsSlots.first-end s e (omega arith) eb)
+        opened = omega (arith, h .0, S .plain e eb, SlotLaws.first-end s e (omega arith) eb)
 
         closed : 1 ≤ at added f
-        closed = omega (arith, h .1, S .plain f fb, FinishLawsSlots.first-end s f (omega arith) fb)
+        closed = omega (arith, h .1, S .plain f fb, SlotLaws.first-end s f (omega arith) fb)
 
     price-met : price whole (graphOf s) W ≡ bound whole (graphOf s) M
     unfolding bound
@@ -344,8 +341,8 @@ module _ (s : List ℕ) (right : Reads s) (mark added full : List ℕ) (S : Sett
           weights = taken .weights;
           distinct = ascending-distinct [] (paths W) ascending;
           demands-met =
-              all-weaken (λ a. (e : ℕ) × FinishLawsSlots.OwnSlot s a e) (λ a. a .demand ≤ total (a .item) W) (asks (graphOf s))
-              (λ a h. omega (arith, ask-total a (h .0) (h .1))) (FinishLawsSlots.own-slots s (right .arcs));
+              all-weaken (λ a. (e : ℕ) × SlotLaws.OwnSlot s a e) (λ a. a .demand ≤ total (a .item) W) (asks (graphOf s))
+              (λ a h. omega (arith, ask-total a (h .0) (h .1))) (SlotLaws.own-slots s (right .arcs));
           reads-met = each (preparedOf s) (taken .held);
         })
       where
@@ -356,13 +353,13 @@ module _ (s : List ℕ) (right : Reads s) (mark added full : List ℕ) (S : Sett
     -- ---- the price
 
     copies-are : totalWeight W ≡ copiesOf s full
-    copies-are = taken .copies ∙ FinishLawsSlots.opens-worth s full
+    copies-are = taken .copies ∙ SlotLaws.opens-worth s full
 
     arc-price : (a : ℕ) → a < arcCount s →
         times whole (total (arcItem s a) W) (costOf whole (graphOf s .arcs) (arcTail s (arcAt s a)) (arcHead s (arcAt s a))) ≡ pos (arcWorth s full a)
     arc-price a h =
-        ap₂ (times whole) (taken .totals (arcItem s a) ∙ FinishLawsSlots.item-worth s full (S .reads) _ (acrossSlot s a) (FinishLawsSlots.arc-slot s (right .arcs) a h))
-        (cost-own whole (graphOf s .arcs) (arcOf s a) (arcTail s (arcAt s a)) (arcHead s (arcAt s a)) (g .once) (FinishLawsSlots.arc-among s a h) (joins-own (arcOf s a))) ∙
+        ap₂ (times whole) (taken .totals (arcItem s a) ∙ SlotLaws.item-worth s full (S .reads) _ (acrossSlot s a) (SlotLaws.arc-slot s (right .arcs) a h))
+        (cost-own whole (graphOf s .arcs) (arcOf s a) (arcTail s (arcAt s a)) (arcHead s (arcAt s a)) (g .once) (arc-among s a h) (joins-own (arcOf s a))) ∙
         times-pos (at full (acrossSlot s a) + readsThrough (arcItem s a) (preparedOf s)) (arcCost s (arcAt s a))
 
     -- "The price of a cover is the sum of weight times price over its paths", found from the loads

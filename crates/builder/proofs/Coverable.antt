@@ -2,7 +2,7 @@
 use Prim.Native.Nat.{ℕ, zero, suc, _+_, _-_, _≤_, _<_}
 use native.Mathlib.Omega.{arith}
 use mathlib.Core.Path.{_≡_, refl, sym, ap, subst, _∙_}
-use mathlib.Core.List.{List, [], _∷_, _++_, map}
+use mathlib.Core.List.{List, [], _∷_, map}
 use mathlib.Core.Bool.{Bool, true, false, cond}
 use mathlib.Core.Logic.{_⊎_, inl, inr, ⊎-elim, _↔_}
 use lib.Dec.{T, ltb}
@@ -10,7 +10,7 @@ use lib.IntN.{ℤ}
 use lib.ListN.{length, getD, length-append, length-map}
 use Rattle.mathematics.specs.Lists.{All}
 use Rattle.mathematics.specs.Graph.{Graph, WellFormed, linked}
-use Rattle.mathematics.specs.Cover.{Ask, vert, vertexAsks, arcAsk, asks, Weighted, IsCover}
+use Rattle.mathematics.specs.Cover.{Ask, vertexAsks, arcAsk, asks, Weighted, IsCover}
 use Rattle.mathematics.specs.Exists.{ItemOnPath, ReadOnPath, Coverable}
 use Rattle.mathematics.specs.Reach.{every, itemList, askLies, readLies, coverable-test}
 use Rattle.mathematics.proofs.Basics.{and-l, and-r, and-in}
@@ -18,9 +18,10 @@ use Rattle.mathematics.proofs.Existence.{cover-exists, cover-shows-coverable, c
 use Rattle.forms.specs.declared.Verdict.{Verdict}
 use Rattle.forms.specs.GraphFaults.{refusal, nothingRefused, then}
 use Rattle.forms.specs.BuildFaults.{roomAsked, asksLieVerdict, readsLieVerdict, coverVerdict}
-use Rattle.builder.specs.Setup.{lieVerdict}
+use Rattle.reach.specs.Reached.{lieVerdict}
+use Rattle.checker.proofs.Rows.{noAsk}
 use Rattle.network.proofs.NetworkLaws.{below-or-not}
-use Rattle.builder.proofs.SetupLawsLacking.{vertex-asks-count}
+use Rattle.reach.proofs.ReachLawsLacking.{vertex-asks-count}
 
 pub all-at : {A : Type 0} (P : A → Type 0) (xs : List A) (d : A) (p : ℕ) → All P xs → p < length xs → P (getD xs p d)
 all-at P [] d p h b = absurd (omega arith)
@@ -64,10 +65,6 @@ module _ {A : Type 0} (f : A → Bool) (d x : A) (xs : List A) (k : ℕ) (after 
       by true e o = later true e tt o
       by false e o =
           inr (0, record { below = omega arith; fails = λ t. subst T e t; before = λ q l. absurd (omega arith) }, ap (refusal 8) (omega arith))
-
--- what stands for an item that is not there: it asks for nothing
-abbrev pub noAsk : Ask
-noAsk = record { item = vert 0; demand = 0 }
 
 asks-outcome : (G : Graph ℤ) (k : ℕ) (xs : List Ask) (after : Verdict) → Outcome (askLies G) noAsk xs k after (asksLieVerdict G k xs after)
 unfolding asksLieVerdict Outcome

@@ -3,8 +3,8 @@ use Prim.Native.Nat.{ℕ}
 use mathlib.Core.Path.{_≡_, sym, ap, _∙_}
 use mathlib.Core.List.{List}
 use mathlib.Core.Logic.{_≢_}
-use lib.IntN.{pos, natAbs}
-use lib.ListN.{length, take}
+use lib.IntN.{natAbs}
+use lib.ListN.{take}
 use Rattle.mathematics.specs.Price.{whole}
 use Rattle.mathematics.proofs.PriceKinds.{whole-ordered}
 use Rattle.mathematics.proofs.Lowest.{lowest-prices-equal}
@@ -16,7 +16,7 @@ use Rattle.forms.specs.AnswerForm.{statedPrice, coverOf}
 use Rattle.checker.specs.Check.{checkVerdict}
 use Rattle.builder.specs.declared.Built.{Built}
 use Rattle.builder.specs.Build.{BuildPromise}
-use Rattle.builder.proofs.Lowest.{LowestForm, written-is-lowest}
+use Rattle.builder.proofs.Lowest.{written-is-lowest}
 
 -- What two results for the same graph bytes and the same output have in common: number and place; where they refuse, the count and every byte; where they
 -- do not, both answers are accepted, and their prices are equal.

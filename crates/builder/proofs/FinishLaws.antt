@@ -21,9 +21,9 @@ use Rattle.checker.proofs.Encoding.{pathRecord, marks-length}
 use Rattle.certify.proofs.CertifyLawsSlack.{low-difference}
 use Rattle.network.specs.Network.{at, sumTo, base, reach}
 use Rattle.paths.specs.Peel.{collectedAt, collected}
-use Rattle.paths.specs.Slots.{acrossSlot}
-use Rattle.builder.specs.Finish.{Placed, heldMark, heldMarks, copiesOf, arcWorth, priceFrom, Priced}
-use Rattle.builder.proofs.FinishLawsSlots.{sum-up}
+use Rattle.paths.specs.Slots.{acrossSlot, copiesOf}
+use Rattle.builder.specs.Finish.{Placed, heldMark, heldMarks, arcWorth, priceFrom, Priced}
+use Rattle.wiring.proofs.SlotLaws.{sum-up}
 
 module _ (a b : List ℕ) (place : ℕ) (x : List ℕ) (P : Placed a place x b) where
   front-length : length (take place a) ≡ place

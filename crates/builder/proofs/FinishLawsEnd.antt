@@ -2,17 +2,17 @@
 -- is written is accepted.
 use Prim.Native.Nat.{ℕ, zero, suc, _+_, _*_, _-_, _≤_, _<_}
 use native.Mathlib.Omega.{arith}
-use native.Mathlib.Nat.{mul-le-mul, le-refl}
-use mathlib.Core.Path.{_≡_, refl, sym, ap, ap₂, subst, _∙_}
+use native.Mathlib.Nat.{mul-le-mul}
+use mathlib.Core.Path.{_≡_, refl, sym, ap, ap₂, _∙_}
 use mathlib.Core.List.{List, [], _∷_, _++_}
 use mathlib.Core.Bool.{Bool, true, false}
 use mathlib.Core.Logic.{_⊎_, inl, inr}
 use lib.Dec.{T}
 use lib.IntN.{ℤ, subℕ}
-use lib.ListN.{length, getD, take, drop}
+use lib.ListN.{length, take, drop}
 use Rattle.mathematics.specs.Lists.{All}
-use Rattle.mathematics.specs.Graph.{linked, WellFormed}
-use Rattle.mathematics.specs.Cover.{Item, sameItem, oneIf, trail, countOf, through, Weighted, totalWeight}
+use Rattle.mathematics.specs.Graph.{linked}
+use Rattle.mathematics.specs.Cover.{Item, sameItem, oneIf, trail, countOf, Weighted, totalWeight}
 use Rattle.mathematics.specs.Bound.{Marks, readsThrough}
 use Rattle.mathematics.specs.Reach.{useful}
 use Rattle.mathematics.proofs.Basics.{all-weaken}
@@ -21,22 +21,21 @@ use Rattle.mathematics.proofs.Reach.{arc-rises, linked-first}
 use Rattle.mathematics.proofs.Links.{inNode, outNode}
 use Rattle.mathematics.proofs.Marked.{side-among}
 use Rattle.forms.specs.Bytes.{tabulate}
-use Rattle.forms.specs.GraphForm.{vertexCount, arcCount, openingPrice, arcAt, arcCost}
-use Rattle.forms.specs.GraphOf.{graphOf}
+use Rattle.forms.specs.GraphForm.{vertexCount, arcCount}
+use Rattle.forms.specs.GraphOf.{graphOf, arcItem}
 use Rattle.forms.specs.GraphReads.{Reads}
-use Rattle.forms.specs.GraphFaults.{nothingRefused, graphVerdict}
+use Rattle.forms.specs.GraphFaults.{graphVerdict}
 use Rattle.checker.specs.Check.{checkVerdict}
-use Rattle.checker.specs.Encode.{bytes32, word32, markBytes, pathBytes, afterLength, encodeAnswer}
-use Rattle.checker.proofs.GraphReads.{number-zero-iff-reads}
+use Rattle.checker.specs.Encode.{bytes32, word32, markBytes, pathBytes, encodeAnswer}
 use Rattle.forms.proofs.GraphFacts.{graph-well-formed, graph-within}
 use Rattle.checker.proofs.Inside.{linked-inside}
 use Rattle.network.specs.Network.{at, sumTo, base, reach}
-use Rattle.paths.specs.Slots.{preparedOf, plainSlots, acrossSlot}
-use Rattle.builder.specs.Lay.{ArcsCounted}
+use Rattle.paths.specs.Slots.{preparedOf, acrossSlot, copiesOf}
+use Rattle.wiring.specs.Lay.{ArcsCounted}
 use Rattle.paths.specs.Peel.{collectedAt, collected, PathTable, Peeled}
-use Rattle.builder.specs.Finish.{Settled, Flowed, arcItem, copiesOf, arcWorth, priceFrom, heldMark, heldMarks, finalMarks, MarksHeld, Priced, Writable, PathsFit, Placed, Answered}
+use Rattle.builder.specs.Finish.{Flowed, arcWorth, priceFrom, heldMark, heldMarks, finalMarks, MarksHeld, Priced, Writable, PathsFit, Placed, Answered}
 use Rattle.builder.proofs.FinishLaws.{placed-length, placed-taken}
-use Rattle.builder.proofs.FinishLawsSlots
+use Rattle.wiring.proofs.SlotLaws
 use Rattle.builder.proofs.Certificate.{certificate-accepted}
 
 -- ---- reads through an item are few
@@ -125,7 +124,7 @@ module _ (s : List ℕ) (right : Reads s) where
 
 weight-below : (f : ℕ → Weighted) (k i j : ℕ) → i ≤ j → j < i + k → f j .weight ≤ totalWeight (tabulate f k i)
 weight-below f zero i j h l = absurd (omega arith)
-weight-below f (suc k) i j h l = pick (FinishLawsSlots.first-or-later i j h) (λ g. weight-below f k (suc i) j g (omega arith))
+weight-below f (suc k) i j h l = pick (SlotLaws.first-or-later i j h) (λ g. weight-below f k (suc i) j g (omega arith))
   where
     pick : (i ≡ j) ⊎ (suc i ≤ j) → (suc i ≤ j → f j .weight ≤ totalWeight (tabulate f k (suc i))) → f j .weight ≤ totalWeight (tabulate f (suc k) i)
     pick (inl e) more = omega (arith, ap (λ x. f x .weight) e)
@@ -141,7 +140,7 @@ paths-fit s full rows lens weights count table taken few =
       wide = table .wide;
       short = table .fit;
       light = λ k h.
-          omega (arith, weight-below (collectedAt rows lens weights) count 0 k (omega arith) (omega arith), taken .copies ∙ FinishLawsSlots.opens-worth s full);
+          omega (arith, weight-below (collectedAt rows lens weights) count 0 k (omega arith) (omega arith), taken .copies ∙ SlotLaws.opens-worth s full);
     }
 
 -- ---- what is written is accepted

@@ -1,27 +1,27 @@
 -- From what the flow leaves to what a build ends with: marks and loads are settled, the full loads go round, and they open no more copies than there was to move.
-use Prim.Native.Nat.{ℕ, zero, suc, _+_, _*_, _-_, _≤_, _<_}
+use Prim.Native.Nat.{ℕ, _+_, _*_, _-_, _≤_, _<_}
 use native.Mathlib.Omega.{arith}
-use mathlib.Core.Path.{_≡_, refl, sym, ap, ap₂, subst, subst₂, _∙_}
-use mathlib.Core.List.{List, []}
+use mathlib.Core.Path.{_≡_, refl, sym, ap, subst, subst₂, _∙_}
+use mathlib.Core.List.{List}
 use mathlib.Core.Bool.{Bool, true, false, cond}
-use mathlib.Core.Logic.{_⊎_, inl, inr, ⊎-elim, _≢_}
+use mathlib.Core.Logic.{_⊎_, inl, inr, _≢_}
 use borrow.Author.Tests.{eq-eqb, ne-eqb}
 use lib.Dec.{T, eqb}
 use lib.ListN.{length}
 use Rattle.mathematics.specs.Reach.{useful}
 use Rattle.mathematics.proofs.Basics.{is-true, is-false, test}
-use Rattle.mathematics.proofs.Links.{opening, inNode, outNode, linkFrom, linkTo}
-use Rattle.forms.specs.GraphForm.{vertexCount, arcCount, vertexDemand, arcAt, arcDemand}
+use Rattle.mathematics.proofs.Links.{inNode, outNode, linkFrom, linkTo}
+use Rattle.forms.specs.GraphForm.{vertexCount, arcCount}
 use Rattle.forms.specs.GraphOf.{graphOf}
 use Rattle.forms.specs.GraphReads.{Reads}
 use Rattle.network.specs.Network.{at, liveAt, sumTo, share, leaving, entering, base, reach, Carried}
-use Rattle.paths.specs.Slots.{preparedOf, plainSlots, allSlots, acrossSlot, openingSlot, readingSlot, linkAt, inUse, edgeFrom, edgeTo, edgeCost, firstLoad, liveNode}
-use Rattle.builder.specs.Lay.{EdgesLaid, LoadsLaid, LiveLaid}
+use Rattle.paths.specs.Slots.{preparedOf, plainSlots, allSlots, openingSlot, readingSlot, linkAt, inUse, edgeFrom, edgeTo, edgeCost, firstLoad, liveNode, copiesOf}
+use Rattle.wiring.specs.Lay.{EdgesLaid, LoadsLaid, LiveLaid}
 use Rattle.paths.specs.Peel.{GoesRound}
-use Rattle.builder.specs.Finish.{Settled, copiesOf, Added, Flowed}
-use Rattle.network.proofs.NetworkLaws.{same-or-not, below-or-not, sum-same, share-same, share-other}
-use Rattle.builder.proofs.LayLawsLoad.{live-in, live-out}
-use Rattle.builder.proofs.FinishLawsSlots
+use Rattle.builder.specs.Finish.{Settled, Added, Flowed}
+use Rattle.network.proofs.NetworkLaws.{same-or-not, below-or-not, sum-same, share-same}
+use Rattle.wiring.proofs.LayLawsLoad.{live-in, live-out}
+use Rattle.wiring.proofs.SlotLaws
 
 -- ---- an edge and its link
 
@@ -58,7 +58,7 @@ sum-shares : (n u : ℕ) (key a b f : ℕ → ℕ) → ((e : ℕ) → e < n → 
 sum-shares n u key a b f h =
     sum-same n (λ e. share u (key e) (f e)) (λ e. share u (key e) (a e) + share u (key e) (b e))
     (λ e l. ap (share u (key e)) (h e l) ∙ share-sum u (key e) (a e) (b e)) ∙
-    FinishLawsSlots.sum-add n (λ e. share u (key e) (a e)) (λ e. share u (key e) (b e))
+    SlotLaws.sum-add n (λ e. share u (key e) (a e)) (λ e. share u (key e) (b e))
 
 module _ (plain more : ℕ) (from to load first added full : List ℕ) (A : Added plain from to load first added full) where
   -- what the flow carries on loops
@@ -94,8 +94,8 @@ module _ (plain more : ℕ) (from to load first added full : List ℕ) (A : Adde
   full-share u key =
       omega (
         arith,
-        FinishLawsSlots.sum-split plain more (λ e. share u (at key e) (at full e)),
-        FinishLawsSlots.sum-split plain more (λ e. share u (at key e) (at first e)),
+        SlotLaws.sum-split plain more (λ e. share u (at key e) (at full e)),
+        SlotLaws.sum-split plain more (λ e. share u (at key e) (at first e)),
         sum-shares plain u (at key) (at first) (at added) (at full) (A .full-is),
         sum-same more (λ k. share u (at key (plain + k)) (at full (plain + k))) (λ k. share u (at key (plain + k)) (at first (plain + k)))
             (λ k l. ap (share u (at key (plain + k))) (A .kept (plain + k) (omega arith))),
@@ -170,11 +170,11 @@ module _ (s : List ℕ) (right : Reads s) (from to cost first load mark added fu
         plain = λ e h. A .full-is e h ∙ ap (λ k. k + at added e) (F .is e (plain-below e h));
         reads = λ r h.
             A .kept (readingSlot s r) (omega arith) ∙
-            (F .is (readingSlot s r) (omega arith) ∙ FinishLawsSlots.first-reading s r);
+            (F .is (readingSlot s r) (omega arith) ∙ SlotLaws.first-reading s r);
       }
     where
       below : (v : ℕ) → T (useful (graphOf s) v) → v < vertexCount s
-      below v u = FinishLawsSlots.useful-below s right v u
+      below v u = SlotLaws.useful-below s right v u
 
   goes : GoesRound s (2 * vertexCount s + 1) from to full
   goes =
@@ -205,13 +205,13 @@ module _ (s : List ℕ) (right : Reads s) (from to cost first load mark added fu
       eb = omega arith
 
       none-first : at full e ≡ at added e
-      none-first = omega (arith, A .full-is e eb, F .is e (plain-below e eb), FinishLawsSlots.first-end s e (omega arith) eb)
+      none-first = omega (arith, A .full-is e eb, F .is e (plain-below e eb), SlotLaws.first-end s e (omega arith) eb)
 
       at-root : 1 ≤ at added e → at from e ≡ 0
       at-root l =
           let v : ℕ = vertexCount s - (k + 1) in
           let q : e ≡ openingSlot s v = omega arith in
-          ends-used e eb (added-used e eb l) .0 ∙ ap linkFrom (ap (linkAt s) q ∙ FinishLawsSlots.at-opening s v (omega arith))
+          ends-used e eb (added-used e eb l) .0 ∙ ap linkFrom (ap (linkAt s) q ∙ SlotLaws.at-opening s v (omega arith))
 
       pick : (0 < at added e) ⊎ (at added e ≤ 0) → at full e ≤ share 0 (at from e) (at load e)
       pick (inl l) = omega (arith, none-first, added-there e eb l .1, share-same 0 (at from e) (at load e) (sym (at-root l)))
@@ -226,9 +226,9 @@ module _ (s : List ℕ) (right : Reads s) (from to cost first load mark added fu
       let p : plainSlots s ≡ n + m + n + n = omega arith in
       omega (
         arith,
-        FinishLawsSlots.sum-most n (λ k. at full (n + m + k)) (λ k. f (n + m + k)) opening-sends,
-        FinishLawsSlots.sum-split (n + m) n f,
-        FinishLawsSlots.sum-split (n + m + n) n f,
+        SlotLaws.sum-most n (λ k. at full (n + m + k)) (λ k. f (n + m + k)) opening-sends,
+        SlotLaws.sum-split (n + m) n f,
+        SlotLaws.sum-split (n + m + n) n f,
         ap (λ k. sumTo k f) p,
         C .root-sends,
       )

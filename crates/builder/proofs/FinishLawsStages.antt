@@ -4,10 +4,10 @@ use native.Mathlib.Omega.{arith}
 use mathlib.Core.Path.{_≡_, refl, sym, ap, subst, subst₂, _∙_}
 use mathlib.Core.List.{List}
 use mathlib.Core.Bool.{Bool, false, cond}
-use mathlib.Core.Logic.{_⊎_, inl, inr, ⊎-elim, _≢_}
+use mathlib.Core.Logic.{_⊎_, ⊎-elim}
 use borrow.Author.Tests.{eq-eqb, ne-eqb}
 use lib.Dec.{eqb}
-use lib.ListN.{length, getD, set, replicate, length-set, length-replicate, getD-replicate}
+use lib.ListN.{length, set, replicate, length-set, length-replicate, getD-replicate}
 use lib.Seq.{getD-set-same, getD-set-other}
 use Rattle.mathematics.specs.Lists.{All}
 use Rattle.mathematics.specs.Exists.{Coverable}
@@ -19,14 +19,14 @@ use Rattle.reads.specs.ReadTable.{rowsOf, Leaves}
 use Rattle.certify.specs.Certify.{Counted, TableSized, CountsLow}
 use Rattle.reads.proofs.TableRows.{table-length}
 use Rattle.network.specs.Network.{at, sumTo, leaving, entering, base, Keys, Chained, Shape, Waiting, Carried}
-use Rattle.paths.specs.Slots.{preparedOf, plainSlots, allSlots, firstLoad}
-use Rattle.builder.specs.Lay.{EdgesLaid, LoadsLaid, LiveLaid, Summable, Tallied, Balanced}
-use Rattle.paths.specs.Peel.{opensAt, worthOf, ReadsHeld, Ready}
+use Rattle.paths.specs.Slots.{preparedOf, plainSlots, allSlots}
+use Rattle.wiring.specs.Lay.{EdgesLaid, LoadsLaid, Summable, Tallied, Balanced}
+use Rattle.paths.specs.Peel.{opensAt, worthOf, Ready}
 use Rattle.builder.specs.Finish.{Added, Loaded, Flowed}
 use Rattle.builder.specs.Stages.{ReadsReady, Layable, Blank, NetworkLaid, OneAdded, dropped, joined, Adding, AtBase}
 use Rattle.network.proofs.NetworkLaws.{same-or-not}
-use Rattle.builder.proofs.Shape.{shape-of-graph, ends-live, first-loads-in-use, summable, balance-sums, ready-to-carry}
-use Rattle.builder.proofs.FinishLawsSlots.{opens-worth}
+use Rattle.wiring.proofs.Shape.{shape-of-graph, ends-live, first-loads-in-use, summable, balance-sums, ready-to-carry}
+use Rattle.wiring.proofs.SlotLaws.{opens-worth}
 use Rattle.builder.proofs.FinishLawsFlow.{flowed}
 
 -- ---- the reads

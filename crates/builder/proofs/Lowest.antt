@@ -2,11 +2,10 @@
 use Prim.Native.Nat.{ℕ, zero, suc, _+_, _*_, _≤_, _<_}
 use native.Mathlib.Omega.{arith}
 use mathlib.Core.Path.{_≡_, refl, sym, ap, subst, _∙_}
-use mathlib.Core.List.{List, [], _∷_}
-use mathlib.Core.Bool.{Bool, true, false, cond}
+use mathlib.Core.List.{List, []}
+use mathlib.Core.Bool.{cond}
 use mathlib.Core.Logic.{_⊎_, inl, inr, _≢_, _↔_}
 use borrow.Author.Tests.{eq-eqb, ne-eqb, le-ltb}
-use lib.Dec.{T, ltb, eqb}
 use lib.IntN.{pos}
 use lib.ListN.{length, take}
 use Rattle.mathematics.specs.Price.{whole}
@@ -16,7 +15,6 @@ use Rattle.forms.specs.declared.Verdict.{Verdict}
 use Rattle.forms.specs.Limits.{maxPaths, maxWeight}
 use Rattle.forms.specs.GraphForm.{vertexCount}
 use Rattle.forms.specs.GraphOf.{graphOf}
-use Rattle.forms.specs.GraphReads.{Reads}
 use Rattle.forms.specs.GraphFaults.{refusal, nothingRefused, graphVerdict}
 use Rattle.forms.specs.AnswerForm.{statedPrice, pathCount, inMarkAt, outMarkAt, marksOf, firstPathAt, pathWeight, pathVertices, pathEnd, pathsFrom, coverOf}
 use Rattle.checker.specs.Check.{checkVerdict}

@@ -1,23 +1,22 @@
 -- What the last part of a build has in hand: marks and loads as the flow leaves them, the price that they come to, and bytes put into the output. Private
 -- functions cite these; no public promise does.
-use Prim.Native.Nat.{ℕ, zero, suc, _+_, _*_, _-_, _≤_, _<_}
+use Prim.Native.Nat.{ℕ, _+_, _*_, _-_, _≤_, _<_}
 use mathlib.Core.Path.{_≡_}
-use mathlib.Core.List.{List, [], _∷_, _++_}
+use mathlib.Core.List.{List, [], _++_}
 use mathlib.Core.Bool.{cond}
 use lib.Dec.{T, eqb}
 use lib.IntN.{ℤ, subℕ}
 use lib.ListN.{length, getD, take, drop}
 use Rattle.mathematics.specs.Bound.{readsThrough, Marks}
-use Rattle.mathematics.specs.Cover.{Item, arc}
 use Rattle.mathematics.specs.Reach.{useful}
 use Rattle.mathematics.specs.Links.{inNode, outNode, linkFrom, linkTo, sideMark}
-use Rattle.forms.specs.GraphForm.{vertexCount, arcCount, openingPrice, arcAt, arcTail, arcHead, arcCost}
-use Rattle.forms.specs.GraphOf.{graphOf}
+use Rattle.forms.specs.GraphForm.{vertexCount, arcCount, openingPrice, arcAt, arcCost}
+use Rattle.forms.specs.GraphOf.{graphOf, arcItem}
 use Rattle.forms.specs.GraphReads.{Reads}
 use Rattle.forms.specs.GraphFaults.{nothingRefused}
 use Rattle.checker.specs.Check.{checkVerdict}
 use Rattle.network.specs.Network.{at, sumTo, base, reach}
-use Rattle.paths.specs.Slots.{preparedOf, plainSlots, acrossSlot, readingSlot, linkAt, inUse, edgeCost, firstLoad}
+use Rattle.paths.specs.Slots.{preparedOf, plainSlots, acrossSlot, readingSlot, linkAt, inUse, edgeCost, firstLoad, copiesOf}
 use Rattle.paths.specs.Peel.{GoesRound}
 
 -- Marks of the nodes and loads added to the first ones, once all is carried: marks are near the root's, no slack of a link in use is below 0, a link with an
@@ -33,14 +32,6 @@ pub record Settled (s mark added full : List ℕ) : Type 0 where
       at mark (linkTo 0 (linkAt s e)) ≡ edgeCost s e + at mark (linkFrom (linkAt s e))
   pub plain : (e : ℕ) → e < plainSlots s → at full e ≡ firstLoad s e + at added e
   pub reads : (r : ℕ) → r < length (preparedOf s) → at full (readingSlot s r) ≡ 1
-
--- arc a of the form
-abbrev pub arcItem : List ℕ → ℕ → Item
-arcItem s a = arc (arcTail s (arcAt s a)) (arcHead s (arcAt s a))
-
--- the copies that the loads open
-abbrev pub copiesOf : List ℕ → List ℕ → ℕ
-copiesOf s full = sumTo (vertexCount s) (λ k. at full (vertexCount s + arcCount s + k))
 
 -- what the copies through arc a cost there
 abbrev pub arcWorth : List ℕ → List ℕ → ℕ → ℕ

@@ -15,8 +15,8 @@ use Rattle.forms.specs.GraphReads.{Reads}
 use Rattle.reads.specs.ReadTable.{Leaves}
 use Rattle.network.specs.Network.{at, base}
 use Rattle.paths.specs.Slots.{preparedOf, allSlots}
-use Rattle.builder.specs.Setup.{Tells}
-use Rattle.builder.specs.Lay.{VerticesCounted, ArcsCounted, EdgesLaid, LoadsLaid, LiveLaid, Balanced}
+use Rattle.reach.specs.Reached.{Tells}
+use Rattle.wiring.specs.Lay.{VerticesCounted, ArcsCounted, EdgesLaid, LoadsLaid, LiveLaid, Balanced}
 
 -- the table holds the prepared reads, and the counts say how many of them pass each vertex and each arc
 pub record ReadsReady (s : List ℕ) (rows : List (List ℕ)) (lens : List ℕ) (count : ℕ) (vertexReads arcReads : List ℕ) : Type 0 where

@@ -3,17 +3,11 @@ use crate::Built;
 use crate::finish::final_marks;
 use crate::finish::final_price;
 use crate::finish::write_answer;
-use crate::reach::first_lacking;
-use crate::reach::reach_ends;
-use crate::reach::reach_from_starts;
-use crate::setup::both;
-use crate::setup::lay_balance;
-use crate::setup::lay_edges;
-use crate::setup::lay_live;
-use crate::setup::lay_loads;
 use certify::count_reads;
 use certify::load_reads;
+use checker::Answer;
 use checker::Graph;
+use checker::Verdict;
 use checker::reader::read_graph;
 use forms::arcs::first_arcs;
 use forms::bytes::be16;
@@ -21,21 +15,31 @@ use forms::bytes::wide;
 use network::carry_all;
 use network::chain;
 use paths::peel_all;
+use reach::first_lacking;
+use reach::reach_ends;
+use reach::reach_from_starts;
 use reads::prepare_reads;
+use wiring::both;
+use wiring::lay_balance;
+use wiring::lay_edges;
+use wiring::lay_live;
+use wiring::lay_loads;
 ghost use mathlib.Core.Path.{_≡_};
+ghost use mathlib.Core.Bool.{cond};
+ghost use lib.Dec.{ltb};
 ghost use Prim.Native.Nat.{ℕ, _+_, _*_, _<_, _≤_};
 ghost use lib.ListN.{length};
 ghost use Rattle.mathematics.specs.Exists.{Coverable};
 ghost use Rattle.mathematics.specs.Reach.{useful};
-ghost use Rattle.forms.specs.GraphForm.{vertexCount};
 ghost use Rattle.forms.specs.GraphOf.{graphOf};
 ghost use Rattle.forms.specs.GraphReads.{Reads};
-ghost use Rattle.forms.specs.GraphFaults.{graphVerdict};
+ghost use Rattle.forms.specs.GraphFaults.{refusal, nothingRefused, then, graphVerdict};
+ghost use Rattle.forms.specs.BuildFaults.{roomAsked};
 ghost use Rattle.reads.specs.ReadTable.{Leaves};
 ghost use Rattle.certify.specs.Certify.{TableSized, CountsLow};
 ghost use Rattle.network.specs.Network.{at, sumTo, Shape, Waiting, Carried};
 ghost use Rattle.paths.specs.Slots.{preparedOf};
-ghost use Rattle.builder.specs.Setup.{Marked, Tells};
+ghost use Rattle.reach.specs.Reached.{Marked, Tells};
 ghost use Rattle.paths.specs.Peel.{PathTable, Peeled, collected};
 ghost use Rattle.builder.specs.Finish.{Added, Loaded, Flowed, Answered};
 ghost use Rattle.builder.specs.Build.{BuildPromise};
@@ -362,6 +366,19 @@ fn answer(
     )
 }
 
+// The refusal, once the graph reads: 8 where an item lies on no path, then 9 where the output has too little room.
+fn first_refusal(lacking: Verdict, room: usize) -> Verdict
+    ensures { λ r. ⌜ r ≡ then lacking (cond (ltb room roomAsked) (refusal 9 0) nothingRefused) ⌝ }
+{
+    if lacking.number != 0 {
+        return lacking;
+    }
+    if room < Answer::LONGEST {
+        return Verdict::new(9, 0);
+    }
+    Verdict::new(0, 0)
+}
+
 // Builds a lowest-price cover of the graph and writes its answer form at the front of the output, or says why not: 1 to 7 where the graph does not read, then 8, then 9.
 pub fn build(graph: &[u8], out: &mut [u8]) -> Built
     ensures { λ r. ⌜ BuildPromise (now (graph .entry)) (now (out .entry)) (now (out .exit)) r ⌝ }
@@ -379,17 +396,11 @@ pub fn build(graph: &[u8], out: &mut [u8]) -> Built
     reach_from_starts(graph, &mut reached);
     reach_ends(graph, &mut reaching);
     let lacking = first_lacking(graph, &reached, &reaching);
-    if lacking.number != 0 {
+    let refused = first_refusal(lacking, out.len());
+    if refused.number != 0 {
         return Built {
-            number: lacking.number,
-            place: lacking.place,
-            written: 0,
-        };
-    }
-    if out.len() < 32_543 {
-        return Built {
-            number: 9,
-            place: 0,
+            number: refused.number,
+            place: refused.place,
             written: 0,
         };
     }

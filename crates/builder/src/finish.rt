@@ -4,7 +4,7 @@ use forms::bytes::be16;
 use forms::bytes::be32;
 use forms::bytes::wide;
 ghost use mathlib.Core.Path.{_≡_};
-ghost use Prim.Native.Nat.{ℕ, _+_, _*_, _-_, _<_, _≤_};
+ghost use Prim.Native.Nat.{_+_, _*_, _-_, _<_, _≤_};
 ghost use mathlib.Core.Bool.{cond, _&&_};
 ghost use lib.IntN.{subℕ};
 ghost use lib.ListN.{length, getD, take};
@@ -13,7 +13,7 @@ ghost use Rattle.checker.specs.Encode.{bytes16, bytes32, bytes64, word32, markB
 ghost use Rattle.checker.proofs.Encoding.{pathRecord};
 ghost use Rattle.network.specs.Network.{at, sumTo, base, reach};
 ghost use Rattle.paths.specs.Peel.{collectedAt, collected};
-ghost use Rattle.builder.specs.Setup.{Marked};
+ghost use Rattle.reach.specs.Reached.{Marked};
 ghost use Rattle.builder.specs.Finish.{Placed, heldMarks, Writable, PathsFit, MarksHeld, Priced, priceFrom};
 
 // The mark of a side of a vertex, held with 2,000,000,000 added: its node's where the vertex is useful; the greatest where no start leads to it; else the least.

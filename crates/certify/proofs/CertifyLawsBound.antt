@@ -6,7 +6,6 @@ use native.Mathlib.Decide.{decLe}
 use native.Mathlib.Numerals.{add-one}
 use mathlib.Core.Path.{_≡_, refl, sym, ap, ap₂, _∙_}
 use mathlib.Core.List.{List}
-use lib.Dec.{T}
 use lib.IntN.{ℤ, natAbs, subℕ}
 use Rattle.mathematics.specs.Price.{whole}
 use Rattle.mathematics.specs.Bound.{vertexSlack, arcSlack}

@@ -15,10 +15,10 @@ use Rattle.mathematics.specs.Bound.{readsThrough}
 use Rattle.forms.specs.declared.Found.the-variants.{At, Missing}
 use Rattle.forms.specs.Limits.{maxVertices, maxArcs}
 use Rattle.forms.specs.GraphForm.{arcCount, arcAt, arcTail, arcHead}
-use Rattle.forms.specs.GraphOf.{arcsOf}
+use Rattle.forms.specs.GraphOf.{arcsOf, arcItem}
 use Rattle.forms.specs.GraphReads.{ArcsRight}
 use Rattle.forms.specs.ArcTable.{arcNumber}
-use Rattle.certify.specs.Growth.{arcItem, onward, Grown}
+use Rattle.certify.specs.Growth.{onward, Grown}
 use Rattle.reads.specs.ReadTable.{rowAt, rowsOf, RowHolds, TableHolds}
 use Rattle.certify.specs.Certify.{CountsLow, ArcPassed, Counted}
 use Rattle.certify.proofs.GrowthLaws.{found-arc, only-arc, grow, count-few, trail-onward, length-onward}

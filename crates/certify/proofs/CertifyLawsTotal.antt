@@ -24,10 +24,9 @@ use Rattle.mathematics.proofs.Telescope.{itemSlack, arc-slack-own}
 use Rattle.mathematics.proofs.Totals.{owed, bound-from-slacks}
 use Rattle.forms.specs.Bytes.{tabulate}
 use Rattle.forms.specs.GraphForm.{vertexCount, arcCount, vertexDemand, arcAt, arcDemand}
-use Rattle.forms.specs.GraphOf.{vertexOf, arcOf, arcsOf, graphOf}
+use Rattle.forms.specs.GraphOf.{vertexOf, arcOf, arcsOf, graphOf, arcItem}
 use Rattle.forms.specs.GraphReads.{Reads}
 use Rattle.forms.specs.AnswerForm.{marksOf}
-use Rattle.certify.specs.Growth.{arcItem}
 use Rattle.certify.specs.Certify.{vertexSlackFault, arcSlackFault, NoneBelow, Counted, vertexPart, arcPart, sumFrom, Sum}
 use Rattle.forms.proofs.GraphFacts.{graph-well-formed}
 

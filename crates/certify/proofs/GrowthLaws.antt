@@ -17,10 +17,10 @@ use Rattle.mathematics.specs.Cover.{Item, vert, arc, sameItem, oneIf, countOf, 
 use Rattle.forms.specs.declared.Found.the-variants.{At}
 use Rattle.forms.specs.Bytes.{tabulate}
 use Rattle.forms.specs.GraphForm.{arcCount, arcAt, arcTail, arcHead, arcCost}
-use Rattle.forms.specs.GraphOf.{arcOf, arcsOf}
+use Rattle.forms.specs.GraphOf.{arcOf, arcsOf, arcItem}
 use Rattle.forms.specs.GraphReads.{ArcsRight}
 use Rattle.forms.specs.ArcTable.{numberFrom, arcNumber}
-use Rattle.certify.specs.Growth.{arcItem, onward}
+use Rattle.certify.specs.Growth.{onward}
 use Rattle.forms.proofs.GraphFacts.{ends-differ}
 use Rattle.forms.proofs.Lookup.{found-iff-goes}
 use Rattle.forms.proofs.WalkLaws.{isAt, found-is}

@@ -3,7 +3,7 @@ use Prim.Native.Nat.{ℕ, zero, suc, _+_, _*_, _-_, _<_, _≤_}
 use mathlib.Core.Path.{_≡_}
 use mathlib.Core.List.{List}
 use mathlib.Core.Bool.{Bool, false, cond}
-use lib.Dec.{T, leb}
+use lib.Dec.{leb}
 use lib.ListN.{length, getD}
 use lib.IntN.{natAbs}
 use Rattle.mathematics.specs.Price.{whole}
@@ -12,12 +12,11 @@ use Rattle.mathematics.specs.Cover.{vert, arc, sameItem, oneIf}
 use Rattle.mathematics.specs.Bound.{readsThrough, vertexSlack, arcSlack, vertexSlacksHold, arcSlackHolds}
 use Rattle.forms.specs.Limits.{maxVertices, maxArcs}
 use Rattle.forms.specs.GraphForm.{vertexCount, arcCount, readCount, vertexDemand, arcAt, arcDemand}
-use Rattle.forms.specs.GraphOf.{vertexOf, arcOf, graphOf}
+use Rattle.forms.specs.GraphOf.{vertexOf, arcOf, graphOf, arcItem}
 use Rattle.forms.specs.declared.Verdict.{Verdict}
 use Rattle.forms.specs.GraphFaults.{then, firstFault}
 use Rattle.forms.specs.AnswerForm.{inMarkAt, outMarkAt, firstPathAt, marksOf}
 use Rattle.forms.specs.AnswerFaults.{markFault}
-use Rattle.certify.specs.Growth.{arcItem}
 
 -- "Item" counts vertices, then arcs, then reads, from 0: the item of arc a, and of read r
 abbrev pub arcPlace : List ℕ → ℕ → ℕ

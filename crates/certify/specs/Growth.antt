@@ -5,11 +5,8 @@ use mathlib.Core.List.{List, [], _∷_}
 use lib.ListN.{length, getD}
 use Rattle.mathematics.specs.Cover.{Item, vert, arc, countOf}
 use Rattle.forms.specs.Limits.{maxVertices, maxArcs}
-use Rattle.forms.specs.GraphForm.{arcCount, arcAt, arcTail, arcHead}
-
--- arc k of a graph form
-abbrev pub arcItem : List ℕ → ℕ → Item
-arcItem s k = arc (arcTail s (arcAt s k)) (arcHead s (arcAt s k))
+use Rattle.forms.specs.GraphForm.{arcCount}
+use Rattle.forms.specs.GraphOf.{arcItem}
 
 -- the arcs and vertices that a path passes after u, in turn
 abbrev pub onward : ℕ → List ℕ → List Item

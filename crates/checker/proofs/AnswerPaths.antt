@@ -16,13 +16,12 @@ use Rattle.mathematics.specs.Cover.{Item, vert, Weighted, countOf, trail, arcCo
 use Rattle.forms.specs.Bytes.{part}
 use Rattle.forms.specs.Limits.{maxVertices, maxArcs, maxReads, maxOpening, maxCost, maxWeight, maxPathLength}
 use Rattle.forms.specs.GraphForm.{vertexCount, arcCount, readCount, openingPrice}
-use Rattle.forms.specs.GraphOf.{graphOf, arcsOf}
+use Rattle.forms.specs.GraphOf.{graphOf, arcsOf, arcItem}
 use Rattle.forms.specs.GraphFaults.{allBelow, refusal, nothingRefused, orElse}
 use Rattle.forms.specs.GraphReads.{Reads}
 use Rattle.forms.specs.AnswerForm.{pathCount, firstPathAt, pathHeaderLength, pathWeight, pathLength, pathVertices, pathEnd, pathOf, pathsFrom, coverOf}
 use Rattle.forms.specs.AnswerFaults.{listBefore, pathFault, pathsVerdict}
 use Rattle.checker.specs.Tallies.{readOf, Marked, Room, PathWalked, pathHeadFault, PathHead, Recorded, PathRead, NothingTallied, PathsRead}
-use Rattle.certify.specs.Growth.{arcItem}
 use Rattle.forms.proofs.PartLaws.{part-none, part-length}
 use Rattle.certify.proofs.CertifyLawsCount.{same-at}
 use Rattle.checker.proofs.AnswerWalk.{through-few}

@@ -21,11 +21,11 @@ use Rattle.forms.specs.declared.Found.the-variants.{At, Missing}
 use Rattle.forms.specs.Bytes.{byte, be32, part, tabulate}
 use Rattle.forms.specs.Limits.{maxVertices, maxArcs, maxCost, maxWeight}
 use Rattle.forms.specs.GraphForm.{vertexCount, arcCount, flags, arcAt, arcCost}
-use Rattle.forms.specs.GraphOf.{graphOf, vertexOf, arcsOf}
+use Rattle.forms.specs.GraphOf.{graphOf, vertexOf, arcsOf, arcItem}
 use Rattle.forms.specs.GraphFaults.{allBelow}
 use Rattle.forms.specs.GraphReads.{ArcsRight, Reads}
 use Rattle.forms.specs.ArcTable.{arcNumber}
-use Rattle.certify.specs.Growth.{arcItem, onward, Grown}
+use Rattle.certify.specs.Growth.{onward, Grown}
 use Rattle.checker.specs.Tallies.{goesOnTo, Room, Walked, PathWalked}
 use Rattle.forms.proofs.PartLaws.{part-cons, part-none, part-length}
 use Rattle.forms.proofs.GraphFacts.{graph-well-formed}

@@ -14,10 +14,9 @@ use Rattle.mathematics.specs.Cover.{Ask, Weighted, vert, vertexAsks, arcAsk, to
 use Rattle.forms.specs.declared.Verdict.{Verdict}
 use Rattle.forms.specs.Bytes.{tabulate}
 use Rattle.forms.specs.GraphForm.{vertexDemand, arcAt, arcDemand}
-use Rattle.forms.specs.GraphOf.{vertexOf, arcOf, graphOf}
+use Rattle.forms.specs.GraphOf.{vertexOf, arcOf, graphOf, arcItem}
 use Rattle.forms.specs.GraphFaults.{refusal, then, firstFault}
 use Rattle.forms.specs.AnswerForm.{marksOf}
-use Rattle.certify.specs.Growth.{arcItem}
 use Rattle.checker.specs.Check.{demandsVerdict, readsMetVerdict, vertexSlacksVerdict, arcSlacksVerdict}
 use Rattle.certify.specs.Certify.{arcPlace, readPlace, vertexUnmet, arcUnmet, readUnmet, vertexSlackFault, arcSlackFault}
 

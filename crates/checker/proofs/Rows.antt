@@ -39,7 +39,7 @@ pub data Row : Type 0 where
   refused : List ℕ → List ℕ → ℕ → ℕ → Row
   shut : List ℕ → ℕ → Row
 
--- no ask
+-- what stands for an item that is not there: it asks for nothing
 abbrev pub noAsk : Ask
 noAsk = record { item = vert 0; demand = 0 }
 

@@ -13,11 +13,11 @@ use Rattle.mathematics.specs.Graph.{linked, isPath, isEnd}
 use Rattle.mathematics.specs.Cover.{Item, vert, trail, arcCosts, total, paths, price}
 use Rattle.forms.specs.Limits.{maxVertices, maxArcs, maxReads, maxCost, maxWeight, maxPathLength}
 use Rattle.forms.specs.GraphForm.{vertexCount, arcCount, readCount, firstReadAt}
-use Rattle.forms.specs.GraphOf.{graphOf, arcsOf, readsFrom}
+use Rattle.forms.specs.GraphOf.{graphOf, arcsOf, readsFrom, arcItem}
 use Rattle.forms.specs.GraphFaults.{allBelow, refusal, nothingRefused}
 use Rattle.forms.specs.AnswerForm.{pathCount, firstPathAt, pathHeaderLength, pathWeight, pathLength, pathVertices, pathEnd, coverOf}
 use Rattle.forms.specs.AnswerFaults.{pathFault, pathsVerdict}
-use Rattle.certify.specs.Growth.{arcItem, Grown}
+use Rattle.certify.specs.Growth.{Grown}
 
 -- read r of a graph form
 abbrev pub readOf : List ℕ → ℕ → List ℕ

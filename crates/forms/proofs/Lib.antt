@@ -4,6 +4,7 @@ pub mod ThenLaws
 pub mod PartLaws
 pub mod MarkLaws
 pub mod ArcLaws
+pub mod ArcNumbers
 pub mod WalkLaws
 pub mod RightLaws
 pub mod GraphFacts

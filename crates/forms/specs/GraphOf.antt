@@ -4,6 +4,7 @@ use mathlib.Core.List.{List, [], _∷_}
 use lib.Dec.{eqb}
 use lib.IntN.{ℤ, pos}
 use Rattle.mathematics.specs.Graph.{Vertex, Arc, Graph}
+use Rattle.mathematics.specs.Cover.{Item, arc}
 use Rattle.forms.specs.Bytes.{tabulate}
 use Rattle.forms.specs.GraphForm.{vertexCount, arcCount, readCount, openingPrice, flags, vertexDemand, arcAt, arcTail, arcHead, arcCost, arcDemand, firstReadAt, readVertices, readEnd}
 
@@ -20,6 +21,10 @@ arcOf s a =
       cost = pos (arcCost s (arcAt s a));
       demand = arcDemand s (arcAt s a);
     }
+
+-- arc a as an item
+abbrev pub arcItem : List ℕ → ℕ → Item
+arcItem s a = arc (arcTail s (arcAt s a)) (arcHead s (arcAt s a))
 
 abbrev pub arcsOf : List ℕ → List (Arc ℤ)
 arcsOf s = tabulate (arcOf s) (arcCount s) 0

@@ -1,6 +1,6 @@
 -- The edges as links of the graph: which link an edge stands for, that a loaded edge is a link of the graph, that loads which go round make a bare
 -- network that does, and that a walk from the root back to it is a path from a start to an end.
-use Prim.Native.Nat.{ℕ, zero, suc, _+_, _*_, _-_, _≤_, _<_}
+use Prim.Native.Nat.{ℕ, _+_, _*_, _-_, _≤_, _<_}
 use native.Mathlib.Omega.{arith}
 use mathlib.Core.Path.{_≡_, refl, sym, ap, subst, _∙_}
 use mathlib.Core.List.{List, [], _∷_, map}
@@ -9,23 +9,23 @@ use mathlib.Core.Logic.{_⊎_, inl, inr, ⊎-elim}
 use lib.Dec.{T, ltb, ltb→lt, lt→ltb}
 use lib.ListN.{length, getD}
 use Rattle.mathematics.specs.Lists.{All}
-use Rattle.mathematics.specs.Graph.{isStart, isEnd, isPath, linked, hasArc, Rises}
+use Rattle.mathematics.specs.Graph.{isStart, isEnd, isPath, linked, Rises}
 use Rattle.mathematics.specs.Reach.{useful}
-use Rattle.mathematics.specs.Range.{OneOf}
 use Rattle.mathematics.proofs.Basics.{is-true, is-false, and-l}
-use Rattle.mathematics.proofs.Reach.{linked-first, linked-rest, arc-joins, arc-rises, start-below, path-start, path-linked}
+use Rattle.mathematics.proofs.Reach.{linked-first, linked-rest, arc-rises, start-below, path-start, path-linked}
 use Rattle.mathematics.proofs.Prepared.{prepared-linked, prepared-fewer}
 use Rattle.mathematics.proofs.Links.{Link, opening, closing, inside, across, reading, inNode, linkFrom, linkTo, OfGraph, Used, Leads, IsWhole, whole-walk, link-rises}
-use Rattle.forms.specs.Bytes.{tabulate}
 use Rattle.forms.specs.GraphForm.{vertexCount, arcCount, arcAt, arcTail, arcHead}
-use Rattle.forms.specs.GraphOf.{graphOf, vertexOf, arcOf}
+use Rattle.forms.specs.GraphOf.{graphOf}
 use Rattle.forms.specs.GraphReads.{Reads}
-use Rattle.forms.proofs.GraphFacts.{length-tabulate, graph-well-formed, graph-within}
+use Rattle.forms.proofs.ArcNumbers.{arc-there}
+use Rattle.forms.proofs.GraphFacts.{graph-well-formed, graph-within}
+use Rattle.forms.proofs.GraphRange.{vertices-length}
 use Rattle.reads.proofs.TableLaws.{at-all}
 use Rattle.network.specs.Network.{at}
 use Rattle.paths.specs.Slots.{preparedOf, plainSlots, allSlots, openingSlot, closingSlot, readingSlot, linkAt, inUse, edgeFrom, edgeTo}
 use Rattle.paths.specs.Peel.{GoesRound, Circles, Winds}
-use Rattle.network.proofs.NetworkLaws.{same-or-not, below-or-not}
+use Rattle.network.proofs.NetworkLaws.{below-or-not}
 
 pick-first : {A : Type 0} (a b : ℕ) (x y : A) → a < b → cond (ltb a b) x y ≡ x
 pick-first a b x y h = ap (λ (t : Bool). cond t x y) (is-true (ltb a b) (lt→ltb a b h))
@@ -82,23 +82,10 @@ stands s e =
     (below-or-not e (plainSlots s))) (below-or-not e (2 * vertexCount s + arcCount s))) (below-or-not e (vertexCount s + arcCount s)))
     (below-or-not e (vertexCount s))
 
-among-tabulate : {A : Type 0} (f : ℕ → A) (n first k : ℕ) → first ≤ k → k < first + n → OneOf (tabulate f n first) (f k)
-among-tabulate f zero first k h l = absurd (omega arith)
-among-tabulate f (suc n) first k h l =
-    ⊎-elim (λ q. inl (ap f q)) (λ q. inr (among-tabulate f n (suc first) k (omega arith) (omega arith))) (same-or-not k first)
-
--- the form that reads has as many vertices, and the numbers of edges and nodes are small
-pub vertices-counted : (s : List ℕ) → length (graphOf s .vertices) ≡ vertexCount s
-unfolding graphOf
-vertices-counted s = length-tabulate (vertexOf s) (vertexCount s) 0
-
+-- the numbers of edges and nodes are small
 pub slots-few : (s : List ℕ) → Reads s → allSlots s ≤ 464
 slots-few s r =
     omega (arith, r .arcs .header .few-vertices, r .arcs .header .few-arcs, prepared-fewer (graphOf s .reads), graph-within s r .few-reads)
-
-arc-of-graph : (s : List ℕ) (a : ℕ) → a < arcCount s → T (hasArc (graphOf s .arcs) (arcTail s (arcAt s a)) (arcHead s (arcAt s a)))
-unfolding graphOf
-arc-of-graph s a h = arc-joins (tabulate (arcOf s) (arcCount s) 0) (arcOf s a) (among-tabulate (arcOf s) (arcCount s) 0 a (omega arith) (omega arith))
 
 module _ (s : List ℕ) (reads : Reads s) where
   abbrev rises : All (Rises (length (graphOf s .vertices))) (graphOf s .arcs)
@@ -117,8 +104,8 @@ module _ (s : List ℕ) (reads : Reads s) where
   of-graph e b t = go (stands s e)
     where
       go : Stands s e → OfGraph (graphOf s) (linkAt s e)
-      go (vertex h i) = rw i (omega (arith, vertices-counted s))
-      go (join a h _ _ i) = rw i (arc-of-graph s a h)
+      go (vertex h i) = rw i (omega (arith, vertices-length s))
+      go (join a h _ _ i) = rw i (arc-there s a h)
       go (start v _ _ _ i) = rw i (and-l (isStart (graphOf s) v) (useful (graphOf s) v) (subst (λ (l : Link). T (inUse s l)) i t))
       go (stop v _ _ _ i) = rw i (and-l (isEnd (graphOf s) v) (useful (graphOf s) v) (subst (λ (l : Link). T (inUse s l)) i t))
       go (read r q i) =
@@ -164,9 +151,9 @@ module _ (s : List ℕ) (reads : Reads s) where
   circles from to load goes =
       record {
         from-node = λ e b l. rw (edge-from _ from to load goes e b l)
-            (⊎-elim (λ h. omega (arith, vertices-counted s)) (λ h. omega (arith, vertices-counted s)) (edge-ways _ from to load goes e b l));
+            (⊎-elim (λ h. omega (arith, vertices-length s)) (λ h. omega (arith, vertices-length s)) (edge-ways _ from to load goes e b l));
         to-node = λ e b l. rw (edge-to _ from to load goes e b l)
-            (⊎-elim (λ h. omega (arith, vertices-counted s)) (λ h. omega (arith, vertices-counted s)) (edge-ways _ from to load goes e b l));
+            (⊎-elim (λ h. omega (arith, vertices-length s)) (λ h. omega (arith, vertices-length s)) (edge-ways _ from to load goes e b l));
         rises = λ e b l. rw (edge-from _ from to load goes e b l, edge-to _ from to load goes e b l)
             (⊎-elim (λ h. inl (h .0, h .1)) (λ h. inr (h .0)) (edge-ways _ from to load goes e b l));
         balance = goes .balance;
@@ -226,6 +213,6 @@ module _ (s : List ℕ) (reads : Reads s) where
       omega (
         arith,
         linked-short v p (start-below (graphOf s) v (path-start (graphOf s) v p t)) (path-linked (graphOf s) v p t),
-        vertices-counted s,
+        vertices-length s,
         reads .arcs .header .few-vertices,
       )

@@ -2,14 +2,12 @@
 -- For a graph of n vertices and m arcs: the vertices, the arcs from the last down, the openings from the last down, the closings, then the prepared
 -- reads. (A chain of edges is walked from the last edge down: so a walk tries a closing first, then arcs and openings by rising vertex, and paths come
 -- out nearly in order.) The builder's stages cite these; no promise of its call does.
-use Prim.Native.Nat.{ℕ, zero, suc, _+_, _*_, _-_, _/_, _%_, _≤_, _<_}
-use mathlib.Core.Path.{_≡_}
+use Prim.Native.Nat.{ℕ, zero, suc, _+_, _*_, _-_, _/_}
 use mathlib.Core.List.{List, []}
-use mathlib.Core.Bool.{Bool, true, false, cond, _&&_}
-use lib.Dec.{T, eqb, ltb}
+use mathlib.Core.Bool.{Bool, true, cond, _&&_}
+use lib.Dec.{ltb}
 use lib.ListN.{length, getD}
-use lib.IntN.{ℤ}
-use Rattle.mathematics.specs.Graph.{Graph, isStart, isEnd}
+use Rattle.mathematics.specs.Graph.{isStart, isEnd}
 use Rattle.mathematics.specs.Cover.{vert, arc}
 use Rattle.mathematics.specs.Prepare.{prepare}
 use Rattle.mathematics.specs.Bound.{rest}
@@ -17,6 +15,7 @@ use Rattle.mathematics.specs.Reach.{useful}
 use Rattle.mathematics.specs.Links.{Link, opening, closing, inside, across, reading, linkFrom, linkTo}
 use Rattle.forms.specs.GraphForm.{vertexCount, arcCount, openingPrice, arcAt, arcTail, arcHead, arcCost, arcDemand, vertexDemand}
 use Rattle.forms.specs.GraphOf.{graphOf}
+use Rattle.network.specs.Network.{at, sumTo}
 
 -- the prepared reads of the graph form s
 abbrev pub preparedOf : List ℕ → List (List ℕ)
@@ -92,3 +91,7 @@ firstLoad s e =
     (arc (arcTail s (arcAt s (vertexCount s + arcCount s - (e + 1)))) (arcHead s (arcAt s (vertexCount s + arcCount s - (e + 1)))))
     (arcDemand s (arcAt s (vertexCount s + arcCount s - (e + 1)))))
     (cond (ltb e (plainSlots s)) 0 1))
+
+-- the copies that the loads open
+abbrev pub copiesOf : List ℕ → List ℕ → ℕ
+copiesOf s full = sumTo (vertexCount s) (λ k. at full (vertexCount s + arcCount s + k))

@@ -237,7 +237,7 @@ pub fn peel_all(
     let mut row = [0u8; 64];
     let mut count: usize = 0;
     let mut h = next_loaded(nodes, edges, from, head, next, load, 0);
-    while h > 0 {
+    while 0 < h {
         count = peel_one(
             s,
             vertices,

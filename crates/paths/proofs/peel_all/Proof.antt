@@ -64,14 +64,14 @@ loop-holds c =
     )
 
 sub-peel-one : tie.Need-sub-peel-one Inv-loop μ-loop
-sub-peel-one c = search needs
+sub-peel-one c = omega (arith, c .loop-test .taken)
 
 peel-one-requires : tie.Need-peel-one-requires Inv-loop μ-loop
 peel-one-requires c κs =
     let d = c .before .before .before .before .before .before in
     let b = d .before .before .before .before .before in
     let i = d .before .loop .inv in
-    let n = next-edge _ _ _ _ _ (i .0 .next) (d .loop-test .taken) in
+    let n = next-edge _ _ _ _ _ (i .0 .next) (omega (arith, d .loop-test .taken)) in
     let e = n .some _ refl in (
       b .pre .0,
       (

@@ -1,5 +1,5 @@
 -- `builder::build::build` meets its contract: one law of FinishLawsPromise for each way through the call. Assumes nothing.
-use Rattle.builder.proofs.FinishLawsPromise.{promise-unread, reads-then, graph-reads, promise-lacking, coverable-then, promise-short, promise-built}
+use Rattle.builder.proofs.FinishLawsPromise.{promise-unread, reads-then, graph-reads, promise-refused, coverable-then, room-then, promise-built}
 use mathlib.Core.Bool.{Bool, false}
 use lib.ListN.{length-replicate}
 use borrow.Author.Needs.{needs}
@@ -21,20 +21,20 @@ reach-ends-requires c κs = (reads-then _ (c .before .before .before .before .be
 first-lacking-requires : tie.Need-first-lacking-requires
 first-lacking-requires c κs = record { reads = reads-then _ (c .before .before .before .before .before .before .before .before .before .before .before .args .out .now) _ (c .before .before .before .before .before .before .before .before .read-graph .ensures) (c .before .before .before .before .before .before .if1 .left); starts = c .before .before .before .before .reach-from-starts .ensures; ends = c .before .before .reach-ends .ensures }
 
-returns-2 : tie.Need-returns-2
-returns-2 c = promise-lacking _ _ _ (c .before .before .before .before .before .before .before .before .before .before .before .read-graph .ensures) (c .before .before .before .before .before .before .before .before .before .if1 .left) _ (c .before .before .first-lacking .ensures) (c .if2 .taken)
+first-refusal-requires : tie.Need-first-refusal-requires
+first-refusal-requires c κs = search needs
 
-returns-3 : tie.Need-returns-3
-returns-3 c = promise-short _ _ _ (c .before .before .before .before .before .before .before .before .before .before .before .before .read-graph .ensures) (c .before .before .before .before .before .before .before .before .before .before .if1 .left) _ (c .before .before .before .first-lacking .ensures) (c .before .if2 .left) (c .if3 .taken)
+returns-2 : tie.Need-returns-2
+returns-2 c = promise-refused _ _ _ (c .before .before .before .before .before .before .before .before .before .before .before .before .read-graph .ensures) (c .before .before .before .before .before .before .before .before .before .before .if1 .left) _ (c .before .before .before .first-lacking .ensures) _ (c .before .before .first-refusal .ensures) (c .if2 .taken)
 
 answer-requires : tie.Need-answer-requires
-answer-requires c κs = let e = c .before .before .before .before .before .before .before .before .before .before .before .before .before .before .before .read-graph .ensures in let z = c .before .before .before .before .before .before .before .before .before .before .before .before .before .if1 .left in ((record { reads = reads-then _ (c .before .before .before .before .before .before .before .before .before .before .before .before .before .before .before .before .before .before .args .out .now) _ e z; starts = c .before .before .before .before .before .before .before .before .before .before .before .reach-from-starts .ensures; ends = c .before .before .before .before .before .before .before .before .before .reach-ends .ensures }, coverable-then _ (c .before .before .before .before .before .before .before .before .before .before .before .before .before .before .before .before .before .before .args .out .now) _ e z _ (c .before .before .before .before .before .before .first-lacking .ensures) (c .before .before .before .before .if2 .left), graph-reads _ (c .before .before .before .before .before .before .before .before .before .before .before .before .before .before .before .before .before .before .args .out .now) _ e z), c .before .before .before .if3 .left)
+answer-requires c κs = let o = c .before .before .before .before .before .before .before .before .before .before .before .before .before .before .before .before .before .before .args .out .now in let e = c .before .before .before .before .before .before .before .before .before .before .before .before .before .before .before .read-graph .ensures in let z = c .before .before .before .before .before .before .before .before .before .before .before .before .before .if1 .left in let l = c .before .before .before .before .before .before .first-lacking .ensures in let f = c .before .before .before .before .before .first-refusal .ensures in let n = c .before .before .before .if2 .left in ((record { reads = reads-then _ o _ e z; starts = c .before .before .before .before .before .before .before .before .before .before .before .reach-from-starts .ensures; ends = c .before .before .before .before .before .before .before .before .before .reach-ends .ensures }, coverable-then _ o _ e z _ l _ f n, graph-reads _ o _ e z), room-then _ o _ e z _ l _ f n)
 
 same-length : tie.Need-same-length
 same-length c = search needs
 
-returns-4 : tie.Need-returns-4
-returns-4 c = promise-built _ _ _ (c .before .before .before .before .before .before .before .before .before .before .before .before .before .before .before .before .before .before .read-graph .ensures) (c .before .before .before .before .before .before .before .before .before .before .before .before .before .before .before .before .if1 .left) _ (c .before .before .before .before .before .before .before .before .before .first-lacking .ensures) (c .before .before .before .before .before .before .before .if2 .left) (c .before .before .before .before .before .before .if3 .left) _ _ (c .before .before .answer .ensures)
+returns-3 : tie.Need-returns-3
+returns-3 c = promise-built _ _ _ (c .before .before .before .before .before .before .before .before .before .before .before .before .before .before .before .before .before .before .read-graph .ensures) (c .before .before .before .before .before .before .before .before .before .before .before .before .before .before .before .before .if1 .left) _ (c .before .before .before .before .before .before .before .before .before .first-lacking .ensures) _ (c .before .before .before .before .before .before .before .before .first-refusal .ensures) (c .before .before .before .before .before .before .if2 .left) _ _ (c .before .before .answer .ensures)
 
 pub build-spec : {M : Type 1} → statement M
 build-spec =
@@ -45,8 +45,8 @@ build-spec =
     reach-from-starts-requires
     reach-ends-requires
     first-lacking-requires
+    first-refusal-requires
     returns-2
-    returns-3
     answer-requires
     same-length
-    returns-4)
+    returns-3)

@@ -1,5 +1,5 @@
 -- `builder::build::carry` meets its contract: both chains are built over edges between nodes, as carrying asks. Assumes nothing.
-use Rattle.builder.proofs.Shape.{keys-from, keys-to}
+use Rattle.wiring.proofs.Shape.{keys-from, keys-to}
 use Prim.Native.Nat.{ℕ}
 use lib.ListN.{length-replicate}
 use borrow.Author.Needs.{needs}

@@ -1,5 +1,5 @@
 -- `builder::build::keep_useful` meets its contract. The loop's invariant: the vertices before v are marked. Assumes nothing.
-use Rattle.builder.proofs.SetupLaws.{Filled, fill-none, fill-more}
+use Rattle.reach.proofs.ReachLaws.{Filled, fill-none, fill-more}
 use Rattle.forms.specs.GraphOf.{graphOf}
 use Rattle.forms.specs.GraphForm.{vertexCount}
 use Rattle.mathematics.specs.Reach.{useful}

@@ -1,5 +1,5 @@
 -- `builder::finish::copies` meets its contract. The loop's invariant: the sum is that of the first k openings, and no sum of fewer terms is more than the whole. Assumes nothing.
-use Rattle.builder.proofs.FinishLawsSlots.{sum-up}
+use Rattle.wiring.proofs.SlotLaws.{sum-up}
 use Rattle.builder.proofs.FinishLaws.{sum-more}
 use Rattle.network.specs.Network.{at, sumTo}
 use mathlib.Core.Path.{_≡_, refl, ap, _∙_}

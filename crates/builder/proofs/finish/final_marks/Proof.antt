@@ -1,10 +1,10 @@
 -- `builder::finish::final_marks` meets its contract. The loop's invariant: the marks of the vertices before v are held. Assumes nothing.
 use Rattle.builder.proofs.FinishLaws.{held-is}
-use Rattle.builder.proofs.SetupLaws.{Filled, fill-none, fill-more}
+use Rattle.reach.proofs.ReachLaws.{Filled, fill-none, fill-more}
 use Rattle.builder.specs.Finish.{heldMark}
 use Rattle.forms.specs.GraphForm.{vertexCount}
 use Rattle.mathematics.proofs.Links.{inNode, outNode}
-use mathlib.Core.Path.{_≡_, refl}
+use mathlib.Core.Path.{_≡_}
 use Prim.Native.Nat.{_≤_, _<_, _-_}
 use native.Mathlib.Omega.{arith}
 use borrow.Author.Needs.{needs}

@@ -1,10 +1,11 @@
 -- `builder::finish::final_price` meets its contract. The loop's invariant: the price so far is the opening prices and the costs at the first a arcs; it never passes the whole price, so nothing wraps. Assumes nothing.
 use Rattle.builder.proofs.FinishLaws.{price-done, cost-at}
 use Rattle.builder.proofs.FinishLaws.{copies-asked, first-price, first-fits, total-fits, next-price, next-fits}
-use Rattle.builder.specs.Finish.{copiesOf, arcWorth}
+use Rattle.builder.specs.Finish.{arcWorth}
 use Rattle.network.specs.Network.{sumTo}
 use Rattle.forms.specs.GraphForm.{vertexCount, arcCount, openingPrice}
-use mathlib.Core.Path.{_≡_, refl}
+use Rattle.paths.specs.Slots.{copiesOf}
+use mathlib.Core.Path.{_≡_}
 use Prim.Native.Nat.{_≤_, _-_, _+_, _*_}
 use native.Mathlib.Omega.{arith}
 use borrow.Author.Needs.{needs}

@@ -2,10 +2,9 @@
 use Rattle.builder.proofs.FinishLaws.{PathsEnd, ends-none, ends-turn, paths-none, paths-turn, placed-length}
 use Rattle.builder.specs.Finish.{Placed}
 use Rattle.paths.specs.Peel.{collected}
-use Rattle.network.specs.Network.{at}
 use Rattle.checker.specs.Encode.{pathBytes}
 use lib.ListN.{length}
-use mathlib.Core.Path.{_≡_, refl, subst}
+use mathlib.Core.Path.{_≡_, refl}
 use Prim.Native.Nat.{_≤_, _-_}
 use native.Mathlib.Omega.{arith}
 use borrow.Author.Needs.{needs}
