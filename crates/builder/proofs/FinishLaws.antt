@@ -33,11 +33,7 @@ module _ (a b : List ℕ) (place : ℕ) (x : List ℕ) (P : Placed a place x b) 
   placed-length =
       ap length (P .is) ∙ simp (length-append, length-drop, front-length) (let h = P .room in omega arith)
 
-  -- what stands before is kept
-  placed-before : take place b ≡ take place a
-  placed-before = ap (take place) (P .is) ∙ take-at (take place a) (x ++ drop (place + length x) a) place front-length
-
-  -- and what stands behind
+  -- what stands behind is kept
   placed-behind : drop (place + length x) b ≡ drop (place + length x) a
   placed-behind =
       ap (drop (place + length x)) (P .is ∙ sym (append-assoc (take place a) x (drop (place + length x) a))) ∙

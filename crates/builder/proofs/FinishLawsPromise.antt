@@ -1,6 +1,6 @@
 -- The builder's promise, way by way through the call: the graph does not read (1 to 7), an item lies on no path (8), there is too little room (9), or an
 -- answer is written.
-use Prim.Native.Nat.{ℕ, _≤_, _<_}
+use Prim.Native.Nat.{ℕ, _≤_}
 use native.Mathlib.Decide.{ℕ-discrete, decLt}
 use native.Mathlib.Omega.{arith}
 use mathlib.Core.Path.{_≡_, refl, sym, ap, _∙_}

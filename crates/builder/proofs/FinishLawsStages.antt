@@ -170,9 +170,6 @@ module _ (s : List ℕ) (n m count : ℕ) (en : n ≡ vertexCount s) (em : m ≡
       Balanced (2 * vertexCount s + 1) (allSlots s) from to first surplus deficit
   laid-balance from to first surplus deficit B = rw (← nodes-are, ← edges-are) B
 
-  pub plain-is : 3 * n + m ≡ plainSlots s
-  plain-is = omega arith
-
 pub tally-none : (N : ℕ) (from to first surplus deficit : List ℕ) → length surplus ≡ 129 → length deficit ≡ 129 → ((u : ℕ) → at surplus u ≡ 0) → ((u : ℕ) → at deficit u ≡ 0) →
     Tallied N 0 from to first surplus deficit
 unfolding leaving entering

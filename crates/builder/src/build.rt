@@ -366,12 +366,12 @@ fn answer(
     )
 }
 
-// The refusal, once the graph reads: 8 where an item lies on no path, then 9 where the output has too little room.
-fn first_refusal(lacking: Verdict, room: usize) -> Verdict
-    ensures { λ r. ⌜ r ≡ then lacking (cond (ltb room roomAsked) (refusal 9 0) nothingRefused) ⌝ }
+// The refusal, once the graph reads: what is lacking, 8 where an item lies on no path, then 9 where the output has too little room.
+fn first_refusal(number: usize, place: usize, room: usize) -> Verdict
+    ensures { λ r. ⌜ r ≡ then (refusal number place) (cond (ltb room roomAsked) (refusal 9 0) nothingRefused) ⌝ }
 {
-    if lacking.number != 0 {
-        return lacking;
+    if number != 0 {
+        return Verdict::new(number, place);
     }
     if room < Answer::LONGEST {
         return Verdict::new(9, 0);
@@ -396,7 +396,7 @@ pub fn build(graph: &[u8], out: &mut [u8]) -> Built
     reach_from_starts(graph, &mut reached);
     reach_ends(graph, &mut reaching);
     let lacking = first_lacking(graph, &reached, &reaching);
-    let refused = first_refusal(lacking, out.len());
+    let refused = first_refusal(lacking.number, lacking.place, out.len());
     if refused.number != 0 {
         return Built {
             number: refused.number,

@@ -1,5 +1,5 @@
 -- The working network as it is laid from a graph form that reads: edges, first loads, live nodes, and what each node has too much or too little of.
--- Private functions cite these; no public promise does.
+-- What the builder's stages hand on cites these; its promise does not.
 use Prim.Native.Nat.{ℕ, _+_, _≤_, _<_}
 use mathlib.Core.Path.{_≡_}
 use mathlib.Core.List.{List}
