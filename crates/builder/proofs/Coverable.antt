@@ -2,7 +2,7 @@
 use Prim.Native.Nat.{ℕ, zero, suc, _+_, _-_, _≤_, _<_}
 use native.Mathlib.Omega.{arith}
 use mathlib.Core.Path.{_≡_, refl, sym, ap, subst, _∙_}
-use mathlib.Core.List.{List, [], _∷_, _++_, map}
+use mathlib.Core.List.{List, [], _∷_, map}
 use mathlib.Core.Bool.{Bool, true, false, cond}
 use mathlib.Core.Logic.{_⊎_, inl, inr, ⊎-elim, _↔_}
 use lib.Dec.{T, ltb}
@@ -10,15 +10,16 @@ use lib.IntN.{ℤ}
 use lib.ListN.{length, getD, length-append, length-map}
 use Rattle.mathematics.specs.Lists.{All}
 use Rattle.mathematics.specs.Graph.{Graph, WellFormed, linked}
-use Rattle.mathematics.specs.Cover.{Ask, vert, vertexAsks, arcAsk, asks, Weighted, IsCover}
+use Rattle.mathematics.specs.Cover.{Ask, vertexAsks, arcAsk, asks, Weighted, IsCover}
 use Rattle.mathematics.specs.Exists.{ItemOnPath, ReadOnPath, Coverable}
 use Rattle.mathematics.specs.Reach.{every, itemList, askLies, readLies, coverable-test}
 use Rattle.mathematics.proofs.Basics.{and-l, and-r, and-in}
 use Rattle.mathematics.proofs.Existence.{cover-exists, cover-shows-coverable, coverable-decided, asks-linked, ask-lies, read-lies}
 use Rattle.forms.specs.declared.Verdict.{Verdict}
 use Rattle.forms.specs.GraphFaults.{refusal, nothingRefused, then}
-use Rattle.forms.specs.BuildFaults.{roomAsked, asksLieVerdict, readsLieVerdict, coverVerdict}
+use Rattle.forms.specs.BuildFaults.{roomAsked, noAsk, asksLieVerdict, readsLieVerdict, coverVerdict}
 use Rattle.builder.specs.Setup.{lieVerdict}
+use Rattle.builder.specs.Lacking.{Lies, FirstLacking}
 use Rattle.network.proofs.NetworkLaws.{below-or-not}
 use Rattle.builder.proofs.SetupLawsLacking.{vertex-asks-count}
 
@@ -65,10 +66,6 @@ module _ {A : Type 0} (f : A → Bool) (d x : A) (xs : List A) (k : ℕ) (after 
       by false e o =
           inr (0, record { below = omega arith; fails = λ t. subst T e t; before = λ q l. absurd (omega arith) }, ap (refusal 8) (omega arith))
 
--- what stands for an item that is not there: it asks for nothing
-abbrev pub noAsk : Ask
-noAsk = record { item = vert 0; demand = 0 }
-
 asks-outcome : (G : Graph ℤ) (k : ℕ) (xs : List Ask) (after : Verdict) → Outcome (askLies G) noAsk xs k after (asksLieVerdict G k xs after)
 unfolding asksLieVerdict Outcome
 asks-outcome G k [] after = inl (tt, refl)
@@ -78,17 +75,6 @@ reads-outcome : (G : Graph ℤ) (k : ℕ) (rs : List (List ℕ)) (after : Verdic
 unfolding readsLieVerdict Outcome
 reads-outcome G k [] after = inl (tt, refl)
 reads-outcome G k (r ∷ rs) after = outcome-next (readLies G) [] r rs k after _ (reads-outcome G (suc k) rs after)
-
--- Item q asks for nothing or lies on a path: vertices, then arcs, then reads, which always ask.
-pub record Lies (G : Graph ℤ) (q : ℕ) : Type 0 where
-  pub item : q < length (asks G) → 1 ≤ getD (asks G) q noAsk .demand → ItemOnPath G (getD (asks G) q noAsk .item)
-  pub read : (j : ℕ) → q ≡ length (asks G) + j → j < length (G .reads) → ReadOnPath G (getD (G .reads) j [])
-
--- p is the first item that does not
-pub record FirstLacking (G : Graph ℤ) (p : ℕ) : Type 0 where
-  pub inside : p < length (asks G) + length (G .reads)
-  pub lacks : Lies G p → ⊥
-  pub before : (q : ℕ) → q < p → Lies G q
 
 module _ (G : Graph ℤ) (wf : WellFormed G) (room : ℕ) where
   asks-count : length (asks G) ≡ length (G .vertices) + length (G .arcs)
@@ -204,6 +190,31 @@ module _ (G : Graph ℤ) (wf : WellFormed G) (room : ℕ) where
       by : Answered (coverVerdict G room) → Coverable G → coverVerdict G room ≡ cond (ltb room roomAsked) (refusal 9 0) nothingRefused
       by (inl (t, e)) c = e
       by (inr (p, n, e)) c = absurd (n .lacks (coverable-lies c p))
+
+  -- So the number is 0, 8 or 9, and the place is 0 where nothing is refused.
+  pub cover-number : coverVerdict G room .number ≤ 9
+  unfolding Answered
+  cover-number = by answered
+    where
+      low : (b : Bool) → cond b (refusal 9 0) nothingRefused .number ≤ 9
+      low true = omega arith
+      low false = omega arith
+
+      by : Answered (coverVerdict G room) → coverVerdict G room .number ≤ 9
+      by (inl (t, e)) = subst (λ (v : Verdict). v .number ≤ 9) (sym e) (low (ltb room roomAsked))
+      by (inr (p, n, e)) = omega (arith, ap (λ (v : Verdict). v .number) e)
+
+  pub cover-place-zero : coverVerdict G room .number ≡ 0 → coverVerdict G room .place ≡ 0
+  unfolding Answered
+  cover-place-zero = by answered
+    where
+      none : (b : Bool) → cond b (refusal 9 0) nothingRefused .place ≡ 0
+      none true = refl
+      none false = refl
+
+      by : Answered (coverVerdict G room) → coverVerdict G room .number ≡ 0 → coverVerdict G room .place ≡ 0
+      by (inl (t, e)) z = subst (λ (v : Verdict). v .place ≡ 0) (sym e) (none (ltb room roomAsked))
+      by (inr (p, n, e)) z = absurd (omega (arith, ap (λ (v : Verdict). v .number) e))
 
 -- ---- what `first_lacking` gives, and what the builder makes of it
 

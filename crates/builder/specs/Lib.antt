@@ -1,4 +1,6 @@
 pub mod Build
+pub mod Lacking
+pub mod Results
 pub mod Finish
 pub mod Setup
 pub mod Lay
