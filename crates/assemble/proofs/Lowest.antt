@@ -11,8 +11,8 @@ use Rattle.checker.specs.declared.Verdict.{Verdict}
 use Rattle.checker.specs.GraphOf.{graphOf}
 use Rattle.builder.specs.Build.{roomAsked, buildVerdict}
 use Rattle.listing.specs.Text.{coverLine, boundLine}
-use Rattle.listing.specs.Listing.{listingOf, longestInput, Writes}
-use Rattle.listing.proofs.Listed.{coverLines, listed-is-lowest}
+use Rattle.listing.specs.Listing.{coverLines, listingOf, longestInput, Writes}
+use Rattle.listing.proofs.Listed.{listed-is-lowest}
 use Rattle.listing.proofs.Writing.{written-is-text}
 use Rattle.assemble.specs.Assemble.{assembledListing, Assembled}
 
