@@ -11,8 +11,8 @@ use Rattle.forms.specs.declared.Verdict.{Verdict}
 use Rattle.forms.specs.GraphOf.{graphOf}
 use Rattle.forms.specs.BuildFaults.{roomAsked, buildVerdict}
 use Rattle.listing.specs.Text.{coverLine, boundLine}
-use Rattle.listing.specs.Listing.{listingOf, longestInput, Writes}
-use Rattle.listing.proofs.Listed.{coverLines, listed-is-lowest}
+use Rattle.listing.specs.Listing.{coverLines, listingOf, longestInput, Writes}
+use Rattle.listing.proofs.Listed.{listed-is-lowest}
 use Rattle.listing.proofs.Writing.{written-is-text}
 use Rattle.assemble.specs.Assemble.{assembledListing, Assembled}
 

@@ -45,9 +45,10 @@ use Rattle.forms.proofs.GraphFacts.{graph-well-formed, graph-costs-hold, graph-
 use Rattle.checker.proofs.GraphReads.{number-zero-iff-reads}
 use Rattle.forms.proofs.ArcNumbers.{arc-among, arc-number}
 use Rattle.forms.proofs.GraphRange.{vertices-length}
-use Rattle.checker.proofs.Ascending.{Ascending, ascending-distinct}
-use Rattle.checker.proofs.Encoding.{InRange}
-use Rattle.checker.proofs.Completeness.{MarksFit, shown-form-accepted}
+use Rattle.checker.specs.Accepted.{InRange}
+use Rattle.checker.specs.Acceptable.{Ascending, MarksFit}
+use Rattle.checker.proofs.Ascending.{ascending-distinct}
+use Rattle.checker.proofs.Completeness.{shown-form-accepted}
 use Rattle.certify.proofs.CertifyLawsSlack.{low-difference, held-difference, held-sum-less-held, not-below}
 use Rattle.network.specs.Network.{at, sumTo, base, reach}
 use Rattle.paths.specs.Slots.{preparedOf, plainSlots, allSlots, insideSlot, acrossSlot, openingSlot, closingSlot, linkAt, inUse, edgeCost, copiesOf}

@@ -17,9 +17,9 @@ use Rattle.mathematics.proofs.Basics.{and-l, and-r, and-in}
 use Rattle.mathematics.proofs.Existence.{cover-exists, cover-shows-coverable, coverable-decided, asks-linked, ask-lies, read-lies}
 use Rattle.forms.specs.declared.Verdict.{Verdict}
 use Rattle.forms.specs.GraphFaults.{refusal, nothingRefused, then}
-use Rattle.forms.specs.BuildFaults.{roomAsked, asksLieVerdict, readsLieVerdict, coverVerdict}
+use Rattle.forms.specs.BuildFaults.{roomAsked, noAsk, asksLieVerdict, readsLieVerdict, coverVerdict}
 use Rattle.reach.specs.Reached.{lieVerdict}
-use Rattle.checker.proofs.Rows.{noAsk}
+use Rattle.builder.specs.Lacking.{Lies, FirstLacking}
 use Rattle.network.proofs.NetworkLaws.{below-or-not}
 use Rattle.reach.proofs.ReachLawsLacking.{vertex-asks-count}
 
@@ -75,17 +75,6 @@ reads-outcome : (G : Graph ℤ) (k : ℕ) (rs : List (List ℕ)) (after : Verdic
 unfolding readsLieVerdict Outcome
 reads-outcome G k [] after = inl (tt, refl)
 reads-outcome G k (r ∷ rs) after = outcome-next (readLies G) [] r rs k after _ (reads-outcome G (suc k) rs after)
-
--- Item q asks for nothing or lies on a path: vertices, then arcs, then reads, which always ask.
-pub record Lies (G : Graph ℤ) (q : ℕ) : Type 0 where
-  pub item : q < length (asks G) → 1 ≤ getD (asks G) q noAsk .demand → ItemOnPath G (getD (asks G) q noAsk .item)
-  pub read : (j : ℕ) → q ≡ length (asks G) + j → j < length (G .reads) → ReadOnPath G (getD (G .reads) j [])
-
--- p is the first item that does not
-pub record FirstLacking (G : Graph ℤ) (p : ℕ) : Type 0 where
-  pub inside : p < length (asks G) + length (G .reads)
-  pub lacks : Lies G p → ⊥
-  pub before : (q : ℕ) → q < p → Lies G q
 
 module _ (G : Graph ℤ) (wf : WellFormed G) (room : ℕ) where
   asks-count : length (asks G) ≡ length (G .vertices) + length (G .arcs)
@@ -201,6 +190,31 @@ module _ (G : Graph ℤ) (wf : WellFormed G) (room : ℕ) where
       by : Answered (coverVerdict G room) → Coverable G → coverVerdict G room ≡ cond (ltb room roomAsked) (refusal 9 0) nothingRefused
       by (inl (t, e)) c = e
       by (inr (p, n, e)) c = absurd (n .lacks (coverable-lies c p))
+
+  -- So the number is 0, 8 or 9, and the place is 0 where nothing is refused.
+  pub cover-number : coverVerdict G room .number ≤ 9
+  unfolding Answered
+  cover-number = by answered
+    where
+      low : (b : Bool) → cond b (refusal 9 0) nothingRefused .number ≤ 9
+      low true = omega arith
+      low false = omega arith
+
+      by : Answered (coverVerdict G room) → coverVerdict G room .number ≤ 9
+      by (inl (t, e)) = subst (λ (v : Verdict). v .number ≤ 9) (sym e) (low (ltb room roomAsked))
+      by (inr (p, n, e)) = omega (arith, ap (λ (v : Verdict). v .number) e)
+
+  pub cover-place-zero : coverVerdict G room .number ≡ 0 → coverVerdict G room .place ≡ 0
+  unfolding Answered
+  cover-place-zero = by answered
+    where
+      none : (b : Bool) → cond b (refusal 9 0) nothingRefused .place ≡ 0
+      none true = refl
+      none false = refl
+
+      by : Answered (coverVerdict G room) → coverVerdict G room .number ≡ 0 → coverVerdict G room .place ≡ 0
+      by (inl (t, e)) z = subst (λ (v : Verdict). v .place ≡ 0) (sym e) (none (ltb room roomAsked))
+      by (inr (p, n, e)) z = absurd (omega (arith, ap (λ (v : Verdict). v .number) e))
 
 -- ---- what `first_lacking` gives, and what the builder makes of it
 

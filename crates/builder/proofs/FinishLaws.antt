@@ -15,9 +15,9 @@ use Rattle.mathematics.specs.Reach.{fromStart, toEnd}
 use Rattle.forms.specs.Bytes.{be32, tabulate}
 use Rattle.forms.specs.GraphForm.{vertexCount, arcCount, openingPrice, arcAt, arcCost}
 use Rattle.forms.specs.GraphOf.{graphOf}
-use Rattle.checker.specs.Encode.{bytes16, bytes32, bytes64, word32, markBytes, pathBytes, afterLength, encodeAnswer}
+use Rattle.checker.specs.Encode.{bytes16, bytes32, bytes64, word32, markBytes, pathRecord, pathBytes, afterLength, encodeAnswer}
 use Rattle.forms.proofs.GraphFacts.{length-tabulate}
-use Rattle.checker.proofs.Encoding.{pathRecord, marks-length}
+use Rattle.checker.proofs.Encoding.{marks-length}
 use Rattle.certify.proofs.CertifyLawsSlack.{low-difference}
 use Rattle.network.specs.Network.{at, sumTo, base, reach}
 use Rattle.paths.specs.Peel.{collectedAt, collected}

@@ -6,20 +6,18 @@ use mathlib.Core.List.{List, []}
 use mathlib.Core.Bool.{cond}
 use mathlib.Core.Logic.{_⊎_, inl, inr, _≢_, _↔_}
 use borrow.Author.Tests.{eq-eqb, ne-eqb, le-ltb}
-use lib.IntN.{pos}
 use lib.ListN.{length, take}
-use Rattle.mathematics.specs.Price.{whole}
-use Rattle.mathematics.specs.Cover.{Weighted, totalWeight, IsCover, price, IsLowest}
+use Rattle.mathematics.specs.Cover.{Weighted, totalWeight, IsCover}
 use Rattle.mathematics.proofs.Existence.{cover-shows-coverable}
 use Rattle.forms.specs.declared.Verdict.{Verdict}
-use Rattle.forms.specs.Limits.{maxPaths, maxWeight}
+use Rattle.forms.specs.Limits.{maxWeight}
 use Rattle.forms.specs.GraphForm.{vertexCount}
 use Rattle.forms.specs.GraphOf.{graphOf}
 use Rattle.forms.specs.GraphFaults.{refusal, nothingRefused, graphVerdict}
-use Rattle.forms.specs.AnswerForm.{statedPrice, pathCount, inMarkAt, outMarkAt, marksOf, firstPathAt, pathWeight, pathVertices, pathEnd, pathsFrom, coverOf}
+use Rattle.forms.specs.AnswerForm.{pathCount, inMarkAt, outMarkAt, marksOf, firstPathAt, pathWeight, pathVertices, pathEnd, pathsFrom, coverOf}
 use Rattle.checker.specs.Check.{checkVerdict}
-use Rattle.checker.proofs.Accepted.{MarkRight, MarksRight, PathsRight, number-zero-accepted}
-use Rattle.checker.proofs.Completeness.{MarksFit}
+use Rattle.checker.specs.Accepted.{MarkRight, MarksRight, PathsRight}
+use Rattle.checker.proofs.Accepted.{number-zero-accepted}
 use Rattle.forms.proofs.GraphFacts.{graph-well-formed}
 use Rattle.checker.proofs.GraphReads.{number-zero-iff-reads, number-to-seven}
 use Rattle.forms.proofs.GraphRange.{vertices-length}
@@ -27,8 +25,10 @@ use Rattle.checker.proofs.Soundness.{accepted-is-lowest}
 use Rattle.builder.specs.declared.Built.{Built}
 use Rattle.forms.specs.BuildFaults.{roomAsked, coverVerdict, buildVerdict}
 use Rattle.builder.specs.Build.{BuildPromise}
+use Rattle.builder.specs.Lacking.{FirstLacking}
+use Rattle.builder.specs.Results.{LowestForm}
 use Rattle.network.proofs.NetworkLaws.{same-or-not}
-use Rattle.builder.proofs.Coverable.{FirstLacking, eight-iff-no-cover, eight-at-first-lacking, coverable-asks-room}
+use Rattle.builder.proofs.Coverable.{eight-iff-no-cover, eight-at-first-lacking, coverable-asks-room}
 
 -- ---- the verdict
 
@@ -42,14 +42,6 @@ module _ (s : List ℕ) (room : ℕ) where
   verdict-of-unread n = rw (ne-eqb (graphVerdict s .number) 0 n)
 
 -- ---- the answer that is written
-
--- What the bytes t are for the graph bytes s: an answer form of a lowest-price cover at its price, inside the limits of document 01, "Numbers allowed".
-pub record LowestForm (s t : List ℕ) : Type 0 where
-  pub lowest : IsLowest whole (graphOf s) (coverOf (vertexCount s) t)
-  pub price-stated : price whole (graphOf s) (coverOf (vertexCount s) t) ≡ pos (statedPrice t)
-  pub few-paths : length (coverOf (vertexCount s) t) ≤ maxPaths
-  pub few-copies : totalWeight (coverOf (vertexCount s) t) ≤ maxWeight
-  pub marks-fit : MarksFit s (marksOf t)
 
 paths-counted : (t : List ℕ) (count place : ℕ) → length (pathsFrom t count place) ≡ count
 paths-counted t zero place = refl

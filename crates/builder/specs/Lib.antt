@@ -1,3 +1,5 @@
 pub mod Build
+pub mod Lacking
+pub mod Results
 pub mod Finish
 pub mod Stages

@@ -15,7 +15,7 @@ use Rattle.mathematics.specs.Price.{Prices, whole}
 use Rattle.mathematics.specs.Lists.{All, someHolds}
 use Rattle.mathematics.specs.Graph.{Vertex, Arc, Graph, isPath}
 use Rattle.mathematics.specs.Cover.{Ask, Weighted, asks, total, paths, price}
-use Rattle.mathematics.specs.Bound.{Marks, SlacksHold, VertexSlacksHold, vertexSlacksHold, arcSlackHolds, bound}
+use Rattle.mathematics.specs.Bound.{Marks, VertexSlacksHold, vertexSlacksHold, arcSlackHolds, bound}
 use Rattle.mathematics.proofs.Basics.{is-true}
 use Rattle.forms.specs.declared.Verdict.{Verdict}
 use Rattle.forms.specs.Limits.{maxPaths, maxWeight, markLimit, maxPathLength}
@@ -25,6 +25,7 @@ use Rattle.forms.specs.GraphFaults.{refusal, nothingRefused, orElse, allBelow, 
 use Rattle.forms.specs.AnswerForm.{answerLengthWord, answerVersion, pathCount, statedPrice, markLength, inMarkAt, signed32, marksOf, firstPathAt, pathHeaderLength, pathWeight, pathLength, pathVertices, pathEnd, coverOf}
 use Rattle.forms.specs.AnswerFaults.{answerHeaderVerdict, markFault, marksVerdict, listBefore, pathFault, pathsVerdict}
 use Rattle.checker.specs.Check.{samePrice, demandsVerdict, readsMetVerdict, vertexSlacksVerdict, arcSlacksVerdict, certificateVerdict, answerVerdict, checkVerdict}
+use Rattle.checker.specs.Accepted.{HeaderRight, MarkRight, MarksRight, PathRight, PathsRight, Certified, Accepted}
 
 -- a test that refuses with a number that is not 0, and what comes after it
 refused : (b : Bool) (k at : ℕ) (after : Verdict) → cond b (refusal (suc k) at) after .number ≡ 0 → T (not b) × (after .number ≡ 0)
@@ -68,12 +69,6 @@ earlier-first g a e = at (eqb (g .number) 0) refl e
     at false p e = absurd (eqb-false _ _ p e)
 
 -- 11, 12, 13
-pub record HeaderRight (s t : List ℕ) : Type 0 where
-  pub long : firstPathAt (vertexCount s) ≤ length t
-  pub length-stated : answerLengthWord t ≡ length t
-  pub version-known : answerVersion t ≡ 1
-  pub few-paths : pathCount t ≤ maxPaths
-
 header-tests : (a b c d : Bool) (after : Verdict) → cond (a || not b) (refusal 11 0) (cond (not c) (refusal 12 4) (cond d (refusal 13 5) after)) .number ≡ 0 →
     T (not a) × T b × T c × T (not d) × (after .number ≡ 0)
 header-tests true b c d after e = absurd (omega arith)
@@ -102,14 +97,7 @@ unfolding answerHeaderVerdict
 header-passed s t after h =
     simp (le-ltb _ _ (h .long), eq-eqb _ _ (h .length-stated), eq-eqb _ _ (h .version-known), le-ltb _ _ (h .few-paths))
 
--- 14: count marks, the first at an offset, are in range
-abbrev pub MarkRight : List ℕ → ℕ → Type 0
-MarkRight t at = T (leZ (negℤ (pos markLimit)) (signed32 t at)) × T (leZ (signed32 t at) (pos markLimit))
-
-abbrev pub MarksRight : List ℕ → ℕ → ℕ → Type 0
-MarksRight t zero at = Unit {0}
-MarksRight t (suc count) at = MarkRight t at × MarksRight t count (at + markLength)
-
+-- 14
 mark-tests : (a b : Bool) → _≡_ {A = ℕ} (cond (a && b) 0 14) 0 → T a × T b
 mark-tests true true e = (tt, tt)
 mark-tests true false e = absurd (omega arith)
@@ -133,23 +121,7 @@ unfolding marksVerdict
 marks-passed t zero at after h = refl
 marks-passed t (suc count) at after h = fault-passed _ at _ (mark-passed t at (h .0)) ∙ marks-passed t count (at + markLength) after (h .1)
 
--- 15 to 18: the path record at an offset, behind a path and a number of copies
-pub record PathRight (s t : List ℕ) (at : ℕ) (before : List ℕ) (copies : ℕ) : Type 0 where
-  pub some-vertex : 1 ≤ pathLength t at
-  pub few-vertices : pathLength t at ≤ maxPathLength
-  pub within : pathEnd t at ≤ length t
-  pub some-copy : 1 ≤ pathWeight t at
-  pub few-copies : copies + pathWeight t at ≤ maxWeight
-  pub vertices-known : T (allBelow (vertexCount s) (pathVertices t at))
-  pub is-path : T (isPath (graphOf s) (pathVertices t at))
-  pub ascends : T (listBefore before (pathVertices t at))
-
--- count path records, the first at an offset, and no byte behind the last
-abbrev pub PathsRight : List ℕ → List ℕ → ℕ → ℕ → List ℕ → ℕ → Type 0
-PathsRight s t zero at before copies = length t ≤ at
-PathsRight s t (suc count) at before copies =
-    PathRight s t at before copies × PathsRight s t count (pathEnd t at) (pathVertices t at) (copies + pathWeight t at)
-
+-- 15 to 18
 path-tests : (a b c d e f g h i : Bool) →
     _≡_ {A = ℕ} (cond a 15 (cond (b || c) 16 (cond d 15 (cond (e || f) 17 (cond (not (g && h)) 16 (cond i 0 18)))))) 0 →
     T (not b) × T (not c) × T (not d) × T (not e) × T (not f) × T g × T h × T i
@@ -286,16 +258,9 @@ module _ (P : Prices) where
   arc-slacks-passed m k (a ∷ more) after h =
       holding (arcSlackHolds P m a) (arcSlacksVerdict P m (suc k) more after) (refusal 21 k) (h .0) ∙ arc-slacks-passed m (suc k) more after (h .1)
 
-  -- 19 to 22 for a graph, weighted paths, the price stated for them and marks
-  pub record Certified (G : Graph (P .El)) (W : List Weighted) (stated : P .El) (m : Marks (P .El)) : Type 0 where
-    pub demands-met : All (λ a. a .demand ≤ total (a .item) W) (asks G)
-    pub reads-met : All (λ r. T (someHolds (paths W) r)) (G .reads)
-    pub price-stated : T (samePrice P (price P G W) stated)
-    pub slacks-hold : SlacksHold P G m
-    pub bound-stated : T (samePrice P (bound P G m) stated)
-
+  -- 19 to 22
   pub certificate-read : (G : Graph (P .El)) (W : List Weighted) (stated : P .El) (m : Marks (P .El)) →
-      certificateVerdict P G W stated m .number ≡ 0 → Certified G W stated m
+      certificateVerdict P G W stated m .number ≡ 0 → Certified P G W stated m
   unfolding certificateVerdict
   certificate-read G W stated m e =
       let v₂₂ = cond (not (samePrice P (bound P G m) stated)) (refusal 22 0) nothingRefused in
@@ -316,7 +281,7 @@ module _ (P : Prices) where
       }
 
   pub certificate-passed : (G : Graph (P .El)) (W : List Weighted) (stated : P .El) (m : Marks (P .El)) →
-      Certified G W stated m → certificateVerdict P G W stated m ≡ nothingRefused
+      Certified P G W stated m → certificateVerdict P G W stated m ≡ nothingRefused
   unfolding certificateVerdict
   certificate-passed G W stated m h =
       let v₂₂ = cond (not (samePrice P (bound P G m) stated)) (refusal 22 0) nothingRefused in
@@ -328,14 +293,6 @@ module _ (P : Prices) where
       (vertex-slacks-passed G m 0 (G .vertices) (arcSlacksVerdict P m (length (G .vertices)) (G .arcs) v₂₂) (h .slacks-hold .vertices-hold) ∙
       (arc-slacks-passed m (length (G .vertices)) (G .arcs) v₂₂ (h .slacks-hold .arcs-hold) ∙
       passed-by (samePrice P (bound P G m) stated) (refusal 22 0) nothingRefused (h .bound-stated)))))
-
--- an answer form that is accepted for a graph form
-pub record Accepted (s t : List ℕ) : Type 0 where
-  pub graph-reads : graphVerdict s .number ≡ 0
-  pub header : HeaderRight s t
-  pub marks : MarksRight t (2 * vertexCount s) (inMarkAt 0)
-  pub paths : PathsRight s t (pathCount t) (firstPathAt (vertexCount s)) [] 0
-  pub certificate : Certified whole (graphOf s) (coverOf (vertexCount s) t) (pos (statedPrice t)) (marksOf t)
 
 answer-read : (s t : List ℕ) → graphVerdict s .number ≡ 0 → answerVerdict s t .number ≡ 0 → Accepted s t
 unfolding answerVerdict

@@ -9,11 +9,7 @@ use lib.Dec.{T, ltb, eqb, ltb→lt, lt→ltb, eqb→eq, eqb-refl}
 use Rattle.mathematics.specs.Lists.{All, Distinct}
 use Rattle.mathematics.proofs.Basics.{and-l, and-r, and-in, or-cases, or-l, or-r, all-weaken}
 use Rattle.forms.specs.AnswerFaults.{listBefore}
-
--- each list comes before the next; `before` comes before the first
-abbrev pub Ascending : List ℕ → List (List ℕ) → Type 0
-Ascending before [] = Unit {0}
-Ascending before (p ∷ ps) = T (listBefore before p) × Ascending p ps
+use Rattle.checker.specs.Acceptable.{Ascending}
 
 -- the first numbers decide, or they are equal and the rest does
 before-cases : (x y : ℕ) (p q : List ℕ) → T (listBefore (x ∷ p) (y ∷ q)) → (x < y) ⊎ ((x ≡ y) × T (listBefore p q))

@@ -14,7 +14,8 @@ use Rattle.forms.specs.GraphFaults.{refusal, nothingRefused}
 use Rattle.forms.specs.AnswerForm.{pathCount, firstPathAt, pathEnd, pathVertices}
 use Rattle.checker.specs.Check.{checkVerdict, handOutVerdict, pathAt, handedOut}
 use Rattle.checker.specs.Tallies.{PathsStand}
-use Rattle.checker.proofs.Accepted.{earlier-first, PathsRight, Accepted, number-zero-accepted}
+use Rattle.checker.specs.Accepted.{PathsRight, Accepted}
+use Rattle.checker.proofs.Accepted.{earlier-first, number-zero-accepted}
 
 -- Of k paths to pass, left are still ahead, the next at an offset.
 pub record Passing (t : List ℕ) (k from at left : ℕ) : Type 0 where

@@ -27,17 +27,18 @@ use Rattle.forms.specs.GraphForm.{vertexCount}
 use Rattle.forms.specs.GraphOf.{graphOf}
 use Rattle.forms.specs.GraphReads.{Reads}
 use Rattle.forms.specs.GraphFaults.{nothingRefused, allBelow, graphVerdict}
-use Rattle.forms.specs.AnswerForm.{pathCount, markLength, inMarkAt, outMarkAt, marksOf, firstPathAt, pathWeight, pathVertices, pathEnd, coverOf}
+use Rattle.forms.specs.AnswerForm.{pathCount, markLength, inMarkAt, outMarkAt, marksOf, firstPathAt, pathWeight, pathVertices, pathEnd}
 use Rattle.forms.specs.AnswerFaults.{listBefore}
 use Rattle.checker.specs.Check.{samePrice, checkVerdict}
-use Rattle.checker.specs.Encode.{pathBytes, encodeAnswer, sorted}
-use Rattle.checker.proofs.Accepted.{MarkRight, MarksRight, PathsRight, Certified, Accepted, accepted-nothing-refused}
-use Rattle.checker.proofs.Ascending.{Ascending}
+use Rattle.checker.specs.Encode.{pathRecord, pathBytes, encodeAnswer, sorted}
+use Rattle.checker.specs.Accepted.{InRange, MarkRight, MarksRight, PathsRight, Certified, Accepted}
+use Rattle.checker.specs.Acceptable.{Ascending, Holdable, MarksFit, Acceptable}
+use Rattle.checker.proofs.Accepted.{accepted-nothing-refused}
 use Rattle.checker.proofs.GraphReads.{number-zero-iff-reads}
 use Rattle.forms.proofs.GraphFacts.{graph-well-formed, graph-costs-hold, graph-within}
 use Rattle.forms.proofs.GraphRange.{vertices-length, demands-low, costs-low}
 use Rattle.checker.proofs.Encoding
-use Rattle.checker.proofs.Encoding.{InRange, Bytes, Holdable, pathRecord, record-weight, record-length, record-path, record-end, record-split}
+use Rattle.checker.proofs.Encoding.{record-weight, record-length, record-path, record-end, record-split}
 use Rattle.checker.proofs.Inside.{all-below, path-inside}
 use Rattle.checker.proofs.MarksAgree.{slacks-agree, bound-agrees}
 use Rattle.checker.proofs.PriceNumber.{price-at-most}
@@ -52,10 +53,6 @@ marks-right t (suc n) k h =
     let next : inMarkAt (suc k) ≡ inMarkAt k + markLength + markLength = omega arith in
     subst (λ c. MarksRight t c (inMarkAt k)) two
     (r .0, (r .1, subst (MarksRight t (2 * n)) next (marks-right t n (suc k) (λ v l. h v (omega arith)))))
-
--- the marks of the graph's vertices are in range
-abbrev pub MarksFit : List ℕ → Marks ℤ → Type 0
-MarksFit s m = (v : ℕ) → v < length (graphOf s .vertices) → InRange (m .into v) × InRange (m .out v)
 
 -- equal prices pass the test of equality
 equal-same : (a b : ℤ) → a ≡ b → T (samePrice whole a b)
@@ -162,17 +159,6 @@ module _ (s : List ℕ) (r : Reads s) where
                       (sym (bound-agrees whole (graphOf s) (graph-well-formed s r) m (marksOf form) agree) ∙ (shown .1 ∙ e));
                 });
           }
-
--- an answer form for these weighted paths that is accepted: with marks in range, at the paths' price, a byte string of the form's length at most
-pub record Acceptable (s : List ℕ) (W : List Weighted) : Type 0 where
-  pub marks : Marks ℤ
-  pub marks-fit : MarksFit s marks
-  pub stated : ℕ
-  pub price-stated : price whole (graphOf s) W ≡ pos stated
-  pub accepted : checkVerdict s (encodeAnswer (vertexCount s) stated marks W) ≡ nothingRefused
-  pub gives : coverOf (vertexCount s) (encodeAnswer (vertexCount s) stated marks W) ≡ W
-  pub bytes : Bytes (encodeAnswer (vertexCount s) stated marks W)
-  pub fits : length (encodeAnswer (vertexCount s) stated marks W) ≤ 32_543
 
 module _ (s : List ℕ) (r : Reads s) where
   -- paths of the graph and weights of at most the limit fit the form's fields

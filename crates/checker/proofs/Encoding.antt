@@ -5,20 +5,21 @@ use native.Mathlib.Omega.{arith}
 use mathlib.Core.Path.{_≡_, refl, sym, ap, ap₂, _∙_}
 use mathlib.Core.List.{List, [], _∷_, _++_, append-assoc}
 use mathlib.Core.Bool.{cond}
-use lib.Dec.{T, ltb, leb→le}
+use lib.Dec.{ltb, leb→le}
 use lib.ListN.{length, take, drop, length-append}
 use lib.Seq.{getD-append-add, drop-append-add, take-append-seam}
 use lib.IntN.{ℤ, pos, negsuc, negℤ}
-use lib.Signed.{leZ}
 use borrow.Author.Tests.{lt-ltb, le-ltb}
 use Rattle.mathematics.specs.Lists.{All}
 use Rattle.mathematics.specs.Cover.{Weighted}
 use Rattle.mathematics.specs.Bound.{Marks}
 use Rattle.mathematics.proofs.Basics.{all-append}
 use Rattle.forms.specs.Bytes.{byte, be16, be32, be64, part}
-use Rattle.forms.specs.Limits.{maxPaths, markLimit, maxPathLength, maxVertices}
+use Rattle.forms.specs.Limits.{maxPaths, markLimit, maxVertices, longestAnswer}
 use Rattle.forms.specs.AnswerForm.{answerLengthWord, answerVersion, pathCount, statedPrice, inMarkAt, outMarkAt, signed32, marksOf, firstPathAt, pathWeight, pathLength, pathVertices, pathEnd, pathsFrom, coverOf}
-use Rattle.checker.specs.Encode.{bytes16, bytes32, bytes64, word32, markBytes, pathBytes, afterLength, encodeAnswer}
+use Rattle.checker.specs.Encode.{bytes16, bytes32, bytes64, word32, markBytes, pathRecord, pathBytes, afterLength, encodeAnswer}
+use Rattle.checker.specs.Accepted.{InRange}
+use Rattle.checker.specs.Acceptable.{Bytes, Holdable}
 
 -- the bytes behind p are those of q
 byte-behind : (p q : List ℕ) (at : ℕ) → byte (p ++ q) (length p + at) ≡ byte q at
@@ -35,9 +36,6 @@ unfolding be32
 be32-bytes32 x q = omega arith
 
 -- a mark in range reads back from its two's complement
-abbrev pub InRange : ℤ → Type 0
-InRange x = T (leZ (negℤ (pos markLimit)) x) × T (leZ x (pos markLimit))
-
 signed-word : (x : ℤ) → InRange x → cond (ltb (word32 x) 2_147_483_648) (pos (word32 x)) (negℤ (pos (4_294_967_296 - word32 x))) ≡ x
 signed-word (pos k) h =
     let low : k < 2_147_483_648 = omega (arith, leb→le k markLimit (h .1)) in
@@ -80,10 +78,6 @@ out-word m (suc count) k (suc v) q h =
 pub marks-length : (m : Marks ℤ) (count v : ℕ) → length (markBytes m count v) ≡ 8 * count
 marks-length m zero v = refl
 marks-length m (suc count) v = let e = marks-length m count (suc v) in omega arith
-
--- the record of a path
-abbrev pub pathRecord : Weighted → List ℕ
-pathRecord w = bytes32 (w .weight) ++ (length (w .path) ∷ w .path)
 
 -- a path record that stands behind p, read back field by field
 module _ (w : Weighted) (W : List Weighted) (p : List ℕ) (at : ℕ) (e : length p ≡ at) where
@@ -185,18 +179,8 @@ module _ (n price : ℕ) (m : Marks ℤ) (W : List Weighted) where
       (be32-behind header-bytes (markBytes m n 0 ++ pathBytes W) (8 * v + 4) ∙
       (out-word m n 0 v (pathBytes W) h ∙ ap (λ i. word32 (m .out i)) (let e : 0 + v ≡ v = omega arith in e)))) r
 
--- every entry is a byte
-abbrev pub Bytes : List ℕ → Type 0
-Bytes t = All (λ b. b < 256) t
-
 bytes32-are : (x : ℕ) → x < 4_294_967_296 → Bytes (bytes32 x)
 bytes32-are x h = (omega arith, (omega arith, (omega arith, (omega arith, tt))))
-
--- a weighted path that an answer form can hold
-pub record Holdable (w : Weighted) : Type 0 where
-  pub low-weight : w .weight < 4_294_967_296
-  pub few-vertices : length (w .path) ≤ maxPathLength
-  pub low-vertices : All (λ v. v < 256) (w .path)
 
 paths-length : (W : List Weighted) → All Holdable W → length (pathBytes W) ≤ 69 * length W
 paths-length [] h = omega arith
@@ -222,7 +206,7 @@ marks-are-bytes m (suc count) k h =
 
 module _ (n price : ℕ) (m : Marks ℤ) (W : List Weighted) (few : n ≤ maxVertices) (paths : length W ≤ maxPaths) (holdable : All Holdable W) where
   -- "The longest is 32,543 bytes."
-  pub encoded-fits : length (encodeAnswer n price m W) ≤ 32_543
+  pub encoded-fits : length (encodeAnswer n price m W) ≤ longestAnswer
   encoded-fits = let l = encoded-length n price m W in let k = paths-length W holdable in omega arith
 
   -- a byte string: each entry is below 256

@@ -8,20 +8,15 @@ use mathlib.Core.Bool.{cond}
 use lib.Dec.{ltb, ltb→lt}
 use lib.ListN.{length, getD}
 use borrow.Author.Tests.{eq-eqb, ne-eqb}
-use Rattle.mathematics.specs.Price.{whole}
-use Rattle.mathematics.specs.Cover.{Weighted, IsLowest}
-use Rattle.forms.specs.Bytes.{part}
+use Rattle.mathematics.specs.Cover.{Weighted}
 use Rattle.forms.specs.GraphForm.{vertexCount}
-use Rattle.forms.specs.GraphOf.{graphOf}
 use Rattle.forms.specs.GraphFaults.{refusal, nothingRefused}
 use Rattle.forms.specs.AnswerForm.{pathCount, firstPathAt, pathHeaderLength, pathWeight, pathLength, pathVertices, pathEnd, pathOf, pathsFrom, coverOf}
 use Rattle.checker.specs.Check.{checkVerdict, handOutVerdict, pathAt, handedOut}
-use Rattle.checker.proofs.Accepted.{earlier-first, held, PathsRight, number-zero-accepted}
+use Rattle.checker.specs.Accepted.{PathsRight}
+use Rattle.checker.specs.HandedOut.{noPath, HandsOut}
+use Rattle.checker.proofs.Accepted.{earlier-first, held, number-zero-accepted}
 use Rattle.checker.proofs.Soundness.{accepted-is-lowest}
-
--- what stands for a path whose number is not below the number of paths
-abbrev pub noPath : Weighted
-noPath = record { weight = 0; path = [] }
 
 -- "23: path number asked for not below the number of paths", after 22
 pub number-zero-handed-out : (s t : List ℕ) (k : ℕ) → handOutVerdict s t k .number ≡ 0 → (checkVerdict s t .number ≡ 0) × (k < pathCount t)
@@ -47,16 +42,6 @@ module _ (t : List ℕ) where
   path-k-within s (suc count) at zero before copies h l = h .0 .within
   path-k-within s (suc count) at (suc k) before copies h l =
       path-k-within s count (pathEnd t at) k (pathVertices t at) (copies + pathWeight t at) (h .1) (omega arith)
-
--- what is handed out where nothing is refused
-pub record HandsOut (s t : List ℕ) (k : ℕ) : Type 0 where
-  pub lowest : IsLowest whole (graphOf s) (coverOf (vertexCount s) t)
-  pub is-one : k < length (coverOf (vertexCount s) t)
-  pub is-path-k : handedOut s t k ≡ getD (coverOf (vertexCount s) t) k noPath .path
-  pub start : ℕ
-  pub count : ℕ
-  pub within : start + count ≤ length t
-  pub is-part : handedOut s t k ≡ part t start count
 
 -- the vertex bytes of path k of the answer, whose paths are a lowest-price cover of the graph, as a part of the answer
 pub handed-out-is-path-k : (s t : List ℕ) (k : ℕ) → handOutVerdict s t k .number ≡ 0 → HandsOut s t k

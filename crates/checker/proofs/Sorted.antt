@@ -18,7 +18,8 @@ use Rattle.mathematics.proofs.Existence.{held-by-some}
 use Rattle.mathematics.proofs.Totals.{equal-totals-equal-price}
 use Rattle.forms.specs.AnswerFaults.{listBefore}
 use Rattle.checker.specs.Encode.{insertPath, sorted}
-use Rattle.checker.proofs.Ascending.{Ascending, before-less, before-same, ascending-distinct}
+use Rattle.checker.specs.Acceptable.{Ascending}
+use Rattle.checker.proofs.Ascending.{before-less, before-same, ascending-distinct}
 
 -- of two lists that differ one comes before the other
 before-other : (p q : List ℕ) → p ≢ q → (T (listBefore p q) → ⊥) → T (listBefore q p)

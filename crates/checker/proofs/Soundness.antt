@@ -1,8 +1,10 @@
 -- Soundness of the checker: an accepted answer's paths are a cover of the graph, at the stated price, and no cover of any size has a lower price.
-use Prim.Native.Nat.{ℕ, zero, suc, _+_, _≤_}
+use Prim.Native.Nat.{ℕ, zero, suc, _+_, _*_, _≤_}
+use native.Mathlib.Omega.{arith}
 use mathlib.Core.Path.{_≡_, sym, _∙_}
 use mathlib.Core.List.{List, []}
 use lib.Dec.{T}
+use lib.ListN.{length}
 use lib.IntN.{pos}
 use Rattle.mathematics.specs.Price.{Prices, Ordered, whole}
 use Rattle.mathematics.specs.Lists.{All}
@@ -12,12 +14,15 @@ use Rattle.mathematics.specs.Bound.{bound}
 use Rattle.mathematics.proofs.Basics.{and-l, and-r}
 use Rattle.mathematics.proofs.PriceKinds.{whole-ordered}
 use Rattle.mathematics.proofs.Lowest.{shown-is-lowest}
+use Rattle.forms.specs.Limits.{longestAnswer}
 use Rattle.forms.specs.GraphForm.{vertexCount}
 use Rattle.forms.specs.GraphOf.{graphOf}
 use Rattle.forms.specs.AnswerForm.{pathCount, statedPrice, marksOf, firstPathAt, pathWeight, pathVertices, pathEnd, pathsFrom, coverOf}
 use Rattle.checker.specs.Check.{samePrice, checkVerdict}
-use Rattle.checker.proofs.Accepted.{PathsRight, Accepted, number-zero-accepted}
-use Rattle.checker.proofs.Ascending.{Ascending, ascending-distinct}
+use Rattle.checker.specs.Accepted.{PathsRight, Accepted}
+use Rattle.checker.specs.Acceptable.{Ascending}
+use Rattle.checker.proofs.Accepted.{number-zero-accepted}
+use Rattle.checker.proofs.Ascending.{ascending-distinct}
 use Rattle.checker.proofs.GraphReads.{number-zero-iff-reads}
 use Rattle.forms.proofs.GraphFacts.{graph-well-formed}
 
@@ -55,6 +60,19 @@ module _ (s t : List ℕ) where
         demands-met = h .certificate .demands-met;
         reads-met = h .certificate .reads-met;
       }
+
+  -- a path's record has 69 bytes at most
+  paths-fit : (count at : ℕ) (before : List ℕ) (copies : ℕ) → PathsRight s t count at before copies → length t ≤ at + 69 * count
+  paths-fit zero at before copies h = omega arith
+  paths-fit (suc count) at before copies h =
+      omega (arith, h .0 .few-vertices, paths-fit count (pathEnd t at) (pathVertices t at) (copies + pathWeight t at) (h .1))
+
+-- "The longest is 32,543 bytes."
+pub accepted-fits : (s t : List ℕ) → checkVerdict s t .number ≡ 0 → length t ≤ longestAnswer
+accepted-fits s t e =
+    let h = number-zero-accepted s t e in
+    let few = number-zero-iff-reads s .0 (h .graph-reads) .arcs .header .few-vertices in
+    omega (arith, few, h .header .few-paths, paths-fit s t (pathCount t) (firstPathAt (vertexCount s)) [] 0 (h .paths))
 
 -- The paths of an accepted answer are a cover of the graph of these graph bytes, at the stated price, and no cover, of any size, has a lower price.
 pub accepted-is-lowest : (s t : List ℕ) → checkVerdict s t .number ≡ 0 →

@@ -29,6 +29,10 @@ markBytes m zero v = []
 markBytes m (suc count) v = bytes32 (word32 (m .into v)) ++ (bytes32 (word32 (m .out v)) ++ markBytes m count (suc v))
 
 -- "Then per path weight (4), vertex count 1..64 (1), vertices (1 each)."
+abbrev pub pathRecord : Weighted → List ℕ
+pathRecord w = bytes32 (w .weight) ++ (length (w .path) ∷ w .path)
+
+-- the records one behind the other
 abbrev pub pathBytes : List Weighted → List ℕ
 pathBytes [] = []
 pathBytes (w ∷ W) = bytes32 (w .weight) ++ (length (w .path) ∷ (w .path ++ pathBytes W))

@@ -1,3 +1,7 @@
 pub mod Check
-pub mod Tallies
+pub mod Accepted
 pub mod Encode
+pub mod Acceptable
+pub mod HandedOut
+pub mod Rows
+pub mod Tallies

@@ -3,8 +3,7 @@
 use Prim.Native.Nat.{ℕ, zero, suc, _+_, _*_, _<_, _≤_}
 use mathlib.Core.Path.{_≡_}
 use mathlib.Core.List.{List, [], _∷_}
-use mathlib.Core.Bool.{Bool, true, false, cond, _&&_, _||_}
-use lib.Dec.{ltb, eqb}
+use mathlib.Core.Bool.{Bool, true, false, _&&_, _||_}
 use lib.ListN.{length, getD}
 use lib.IntN.{pos}
 use Rattle.mathematics.specs.Price.{whole}
@@ -15,8 +14,8 @@ use Rattle.forms.specs.Limits.{maxVertices, maxArcs, maxReads, maxCost, maxWeig
 use Rattle.forms.specs.GraphForm.{vertexCount, arcCount, readCount, firstReadAt}
 use Rattle.forms.specs.GraphOf.{graphOf, arcsOf, readsFrom, arcItem}
 use Rattle.forms.specs.GraphFaults.{allBelow, refusal, nothingRefused}
-use Rattle.forms.specs.AnswerForm.{pathCount, firstPathAt, pathHeaderLength, pathWeight, pathLength, pathVertices, pathEnd, coverOf}
-use Rattle.forms.specs.AnswerFaults.{pathFault, pathsVerdict}
+use Rattle.forms.specs.AnswerForm.{pathCount, firstPathAt, pathWeight, pathLength, pathVertices, pathEnd, coverOf}
+use Rattle.forms.specs.AnswerFaults.{pathHeadOr, pathFault, pathsVerdict}
 use Rattle.certify.specs.Growth.{Grown}
 
 -- read r of a graph form
@@ -53,11 +52,7 @@ PathWalked s p = Walked s (allBelow (vertexCount s) p && isPath (graphOf s) p) (
 
 -- the head of a path's record, so far as it can be judged without the graph: 15, 16, 15 or 17
 unfoldable pub pathHeadFault : List ℕ → ℕ → ℕ → ℕ
-pathHeadFault t at copies =
-    cond (ltb (length t) (at + pathHeaderLength)) 15
-    (cond (eqb (pathLength t at) 0 || ltb maxPathLength (pathLength t at)) 16
-    (cond (ltb (length t) (pathEnd t at)) 15
-    (cond (eqb (pathWeight t at) 0 || ltb maxWeight (copies + pathWeight t at)) 17 0)))
+pathHeadFault t at copies = pathHeadOr t at copies 0
 
 -- the head of a path's record is right
 pub record PathHead (t : List ℕ) (at copies : ℕ) : Type 0 where

@@ -1,5 +1,5 @@
 -- The graph that a form which reads stands for: no arc twice, well formed, costs hold, sizes within "Numbers allowed".
-use Prim.Native.Nat.{ℕ, zero, suc, _+_, _-_, _<_, _≤_, zero-le}
+use Prim.Native.Nat.{ℕ, zero, suc, _+_, _-_, _*_, _<_, _≤_, zero-le}
 use native.Mathlib.Omega.{arith}
 use mathlib.Core.Path.{_≡_, refl, sym, ap, subst, _∙_}
 use mathlib.Core.List.{List, map}
@@ -13,7 +13,7 @@ use Rattle.mathematics.specs.Price.{whole}
 use Rattle.mathematics.specs.Range.{CostsHold}
 use Rattle.mathematics.proofs.Basics.{all-map}
 use Rattle.forms.specs.Bytes.{part, tabulate}
-use Rattle.forms.specs.Limits.{maxReadLength}
+use Rattle.forms.specs.Limits.{maxReadLength, longestGraph}
 use Rattle.forms.specs.GraphForm.{vertexCount, arcCount, readCount, openingPrice, arcAt, arcTail, arcHead, arcCost, firstReadAt, readLength, readVertices, readEnd}
 use Rattle.forms.specs.GraphOf.{vertexOf, arcOf, arcsOf, readsFrom, graphOf}
 use Rattle.forms.specs.GraphReads.{Before, ReadRight, ReadsRight, ArcsRight, Reads, Within}
@@ -121,3 +121,14 @@ graph-within s r =
       short-reads =
           all-reads s (λ vs. length vs ≤ maxReadLength) (λ at x. omega (arith, x .not-long, read-length s at x)) (readCount s) (firstReadAt s) (r .reads);
     }
+
+-- a read's record has 17 bytes at most
+reads-fit : (s : List ℕ) (count at : ℕ) → ReadsRight s count at → length s ≤ at + 17 * count
+reads-fit s zero at r = omega arith
+reads-fit s (suc count) at r = omega (arith, r .0 .not-long, reads-fit s count (readEnd s at) (r .1))
+
+-- "The longest is 3,165 bytes."
+pub graph-fits : (s : List ℕ) → Reads s → length s ≤ longestGraph
+graph-fits s r =
+    let h = r .arcs .header in
+    omega (arith, h .few-vertices, h .few-arcs, h .few-reads, reads-fit s (readCount s) (firstReadAt s) (r .reads))

@@ -19,7 +19,7 @@ use Rattle.forms.specs.Limits.{maxVertices}
 use Rattle.forms.specs.GraphForm.{arcCount}
 use Rattle.forms.specs.GraphOf.{arcOf, arcsOf}
 use Rattle.forms.specs.GraphReads.{ArcsRight}
-use Rattle.forms.specs.ArcTable.{numberFrom, arcNumber, ArcTable}
+use Rattle.forms.specs.ArcTable.{numberFrom, arcNumber, Goes, ArcTable}
 use Rattle.forms.proofs.RightLaws.{both}
 use Rattle.forms.proofs.ArcLaws.{tailOf, headOf, next, here}
 use Rattle.forms.proofs.WalkLaws.{isAt, found-is}
@@ -36,10 +36,6 @@ is-missing Missing e = refl
 pub missing-iff-no-arc : (arcs : List (Arc ℤ)) (u v : ℕ) → (arcNumber arcs u v ≡ Missing) ↔ (hasArc arcs u v ≡ false)
 missing-iff-no-arc arcs u v =
     (λ e. sym (found-is arcs u v 0) ∙ ap isAt e, λ e. is-missing (arcNumber arcs u v) (found-is arcs u v 0 ∙ e))
-
--- arc k goes from u to v
-abbrev pub Goes : List ℕ → ℕ → ℕ → ℕ → Type 0
-Goes s u v k = (k < arcCount s) × (tailOf s k ≡ u) × (headOf s k ≡ v)
 
 module _ (s : List ℕ) (u v : ℕ) where
   from-found : (n i k : ℕ) → numberFrom (tabulate (arcOf s) n i) u v i ≡ At k → (k < i + n) × (tailOf s k ≡ u) × (headOf s k ≡ v)

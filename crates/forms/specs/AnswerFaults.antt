@@ -38,15 +38,20 @@ listBefore (x ∷ p) (y ∷ q) = ltb x y || (eqb x y && listBefore p q)
 
 -- "Within a path: header past the end 15, bad count 16, past the end 15, then 17, the rest of 16, 18." 17: "weight 0, or running total above
 -- 320,000,016"; 16: "vertex count not 1..64, vertex not below n, pair without arc, first not a start or last not an end"; 18: "path not ascending".
--- `before` is the path before it (the empty list, which comes before every path, for the first) and `copies` the total of the weights so far.
-unfoldable pub pathFault : List ℕ → List ℕ → ℕ → List ℕ → ℕ → ℕ
-pathFault s t at before copies =
+-- What needs no graph comes first, then what is left; `copies` is the total of the weights so far.
+abbrev pub pathHeadOr : List ℕ → ℕ → ℕ → ℕ → ℕ
+pathHeadOr t at copies after =
     cond (ltb (length t) (at + pathHeaderLength)) 15
     (cond (eqb (pathLength t at) 0 || ltb maxPathLength (pathLength t at)) 16
     (cond (ltb (length t) (pathEnd t at)) 15
-    (cond (eqb (pathWeight t at) 0 || ltb maxWeight (copies + pathWeight t at)) 17
+    (cond (eqb (pathWeight t at) 0 || ltb maxWeight (copies + pathWeight t at)) 17 after)))
+
+-- `before` is the path before it (the empty list, which comes before every path, for the first)
+unfoldable pub pathFault : List ℕ → List ℕ → ℕ → List ℕ → ℕ → ℕ
+pathFault s t at before copies =
+    pathHeadOr t at copies
     (cond (not (allBelow (vertexCount s) (pathVertices t at) && isPath (graphOf s) (pathVertices t at))) 16
-    (cond (listBefore before (pathVertices t at)) 0 18)))))
+    (cond (listBefore before (pathVertices t at)) 0 18))
 
 -- 15: "path record past the end, or bytes remain", place "as 5; with no paths, the end of the marks"
 unfoldable pub pathsVerdict : List ℕ → List ℕ → ℕ → ℕ → List ℕ → ℕ → Verdict → Verdict

@@ -1,5 +1,5 @@
 -- Which arc goes from one vertex to another: its number in the form, and the table by which the code finds it without a look at all arcs.
-use Prim.Native.Nat.{ℕ, suc, _+_, _≤_}
+use Prim.Native.Nat.{ℕ, suc, _+_, _<_, _≤_}
 use mathlib.Core.Path.{_≡_}
 use mathlib.Core.List.{List, [], _∷_}
 use mathlib.Core.Bool.{Bool, cond, _&&_}
@@ -11,7 +11,7 @@ use Rattle.mathematics.specs.Cover.{oneIf}
 use Rattle.forms.specs.declared.Found.{Found}
 use Rattle.forms.specs.declared.Found.the-variants.{At, Missing}
 use Rattle.forms.specs.Limits.{maxVertices}
-use Rattle.forms.specs.GraphForm.{vertexCount, arcCount}
+use Rattle.forms.specs.GraphForm.{vertexCount, arcCount, arcAt, arcTail, arcHead}
 use Rattle.forms.specs.GraphOf.{arcsOf}
 use Rattle.forms.specs.GraphReads.{ArcsRight}
 
@@ -23,6 +23,10 @@ numberFrom (a ∷ arcs) u v k = cond (joins a u v) (At k) (numberFrom arcs u v (
 -- the number of the arc from u to v
 abbrev pub arcNumber : List (Arc ℤ) → ℕ → ℕ → Found
 arcNumber arcs u v = numberFrom arcs u v 0
+
+-- arc k of the form goes from u to v: what a lookup that gives `At k` says; `Missing` says that no arc does
+abbrev pub Goes : List ℕ → ℕ → ℕ → ℕ → Type 0
+Goes s u v k = (k < arcCount s) × (arcTail s (arcAt s k) ≡ u) × (arcHead s (arcAt s k) ≡ v)
 
 -- v is below n, and some arc goes from u to v
 unfoldable pub goesOn : ℕ → List (Arc ℤ) → ℕ → ℕ → Bool

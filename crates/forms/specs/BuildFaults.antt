@@ -6,7 +6,7 @@ use lib.Dec.{ltb, eqb}
 use lib.ListN.{length}
 use lib.IntN.{ℤ}
 use Rattle.mathematics.specs.Graph.{Graph}
-use Rattle.mathematics.specs.Cover.{Ask, asks}
+use Rattle.mathematics.specs.Cover.{Ask, vert, asks}
 use Rattle.mathematics.specs.Reach.{readLies, askLies}
 use Rattle.forms.specs.declared.Verdict.{Verdict}
 use Rattle.forms.specs.Limits.{longestAnswer}
@@ -16,6 +16,10 @@ use Rattle.forms.specs.GraphFaults.{refusal, nothingRefused, graphVerdic
 -- 9: "builder: lent output shorter than 32,543 bytes"
 abbrev pub roomAsked : ℕ
 roomAsked = longestAnswer
+
+-- what stands for an item that is not there: it asks for nothing
+abbrev pub noAsk : Ask
+noAsk = record { item = vert 0; demand = 0 }
 
 -- 8: "first item that asks for something (positive demand, or a read) and lies on no start-to-end path"
 unfoldable pub asksLieVerdict : Graph ℤ → ℕ → List Ask → Verdict → Verdict

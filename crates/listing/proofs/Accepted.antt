@@ -21,7 +21,8 @@ use Rattle.forms.specs.AnswerForm.{pathCount, statedPrice, marksOf, firstPathAt
 use Rattle.checker.specs.Check.{checkVerdict, handOutVerdict, pathAt, handedOut}
 use Rattle.forms.proofs.RightLaws.{below-all}
 use Rattle.checker.proofs.GraphReads.{number-zero-iff-reads}
-use Rattle.checker.proofs.Accepted.{PathRight, PathsRight, number-zero-accepted}
+use Rattle.checker.specs.Accepted.{PathRight, PathsRight}
+use Rattle.checker.proofs.Accepted.{number-zero-accepted}
 use Rattle.checker.proofs.Soundness.{accepted-is-lowest}
 use Rattle.listing.specs.Text.{coverWord, pairLine, pathLine, boundLine}
 use Rattle.listing.specs.Listing.{weightOf, pathLines, coverListing, room}

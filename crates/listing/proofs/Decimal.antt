@@ -1,5 +1,5 @@
 -- The text of a number is the right one: read digit by digit it gives the number back, and it does not begin with a zero unless the number is 0.
-use Prim.Native.Nat.{ℕ, zero, suc, _+_, _-_, _*_, _/_, _%_, _^_, _≤_, _<_}
+use Prim.Native.Nat.{ℕ, zero, suc, _*_, _/_, _%_, _^_, _≤_, _<_}
 use native.Mathlib.Omega.{arith}
 use native.Mathlib.Nat.{pow-suc}
 use mathlib.Core.Path.{_≡_, ap, _∙_}
@@ -7,13 +7,8 @@ use mathlib.Core.List.{List, [], _∷_}
 use lib.Dec.{ltb}
 use lib.ListN.{getD}
 use borrow.Author.Tests.{ltb-false}
-use Rattle.listing.specs.Text.{digit, digitsBefore, decimal}
+use Rattle.listing.specs.Text.{digit, digitsBefore, decimal, valueOf}
 use Rattle.listing.proofs.Digits.{chosen}
-
--- the number that digits in decimal notation stand for, behind digits that stand for n
-abbrev pub valueOf : ℕ → List ℕ → ℕ
-valueOf n [] = n
-valueOf n (d ∷ more) = valueOf (n * 10 + (d - 48)) more
 
 shorter : (n places : ℕ) → n < 10 ^ suc places → n / 10 < 10 ^ places
 shorter n places h =

@@ -2,7 +2,7 @@
 use Prim.Native.Nat.{ℕ, zero, suc, _+_, _≤_}
 use native.Mathlib.Omega.{arith}
 use mathlib.Core.Path.{_≡_, refl, sym, ap, ap₂, _∙_}
-use mathlib.Core.List.{List, [], _∷_, _++_}
+use mathlib.Core.List.{List, _++_}
 use lib.ListN.{length}
 use lib.IntN.{natAbs}
 use borrow.Author.Tests.{eq-eqb}
@@ -15,13 +15,8 @@ use Rattle.checker.specs.Check.{checkVerdict, pathAt}
 use Rattle.checker.proofs.Soundness.{accepted-is-lowest}
 use Rattle.checker.proofs.HandedOut.{paths-length}
 use Rattle.listing.specs.Text.{coverLine, pathLine, boundLine}
-use Rattle.listing.specs.Listing.{pathLines, coverListing, listingOf}
+use Rattle.listing.specs.Listing.{pathLines, coverLines, coverListing, listingOf}
 use Rattle.listing.proofs.Accepted.{price-is-stated, bound-is-stated, path-at-next, path-here}
-
--- a line for each weighted path
-abbrev pub coverLines : List Weighted → List ℕ
-coverLines [] = []
-coverLines (w ∷ W) = pathLine (w .weight) (w .path) ++ coverLines W
 
 lines-are-paths : (s t : List ℕ) (count k : ℕ) → checkVerdict s t .number ≡ 0 → k + count ≤ pathCount t →
     pathLines s t count k ≡ coverLines (pathsFrom t count (pathAt t k (firstPathAt (vertexCount s))))

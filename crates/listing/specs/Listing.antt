@@ -2,13 +2,13 @@
 -- weight and vertices. Last line: the bound. A refusal prints one line, `refused`, number, place."
 use Prim.Native.Nat.{ℕ, zero, suc}
 use mathlib.Core.Path.{_≡_}
-use mathlib.Core.List.{List, [], _++_}
+use mathlib.Core.List.{List, [], _∷_, _++_}
 use mathlib.Core.Bool.{cond}
 use lib.Dec.{ltb, leb, eqb}
 use lib.ListN.{length, drop}
 use lib.IntN.{natAbs}
 use Rattle.mathematics.specs.Price.{whole}
-use Rattle.mathematics.specs.Cover.{price}
+use Rattle.mathematics.specs.Cover.{Weighted, price}
 use Rattle.mathematics.specs.Bound.{bound}
 use Rattle.forms.specs.GraphForm.{vertexCount}
 use Rattle.forms.specs.GraphOf.{graphOf}
@@ -25,6 +25,11 @@ weightOf s t k = pathWeight t (pathAt t k (firstPathAt (vertexCount s)))
 abbrev pub pathLines : List ℕ → List ℕ → ℕ → ℕ → List ℕ
 pathLines s t zero k = []
 pathLines s t (suc count) k = pathLine (weightOf s t k) (handedOut s t k) ++ pathLines s t count (suc k)
+
+-- "Then per path its weight and vertices": a line for each weighted path
+abbrev pub coverLines : List Weighted → List ℕ
+coverLines [] = []
+coverLines (w ∷ W) = pathLine (w .weight) (w .path) ++ coverLines W
 
 -- the listing of an accepted answer
 unfoldable pub coverListing : List ℕ → List ℕ → List ℕ

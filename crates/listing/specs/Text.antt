@@ -1,5 +1,5 @@
 -- Document 01, "The two programs": the lines of a listing as bytes, in ASCII, each with one newline at its end.
-use Prim.Native.Nat.{ℕ, zero, suc, _+_, _/_, _%_, _≤_}
+use Prim.Native.Nat.{ℕ, zero, suc, _+_, _*_, _-_, _/_, _%_, _≤_}
 use mathlib.Core.Path.{_≡_}
 use mathlib.Core.List.{List, [], _∷_, _++_}
 use mathlib.Core.Bool.{cond}
@@ -19,6 +19,11 @@ digitsBefore (suc places) n after = cond (ltb n 10) (digit n ∷ after) (digitsB
 -- the text of a number below 10^20, which each number of the machine is
 unfoldable pub decimal : ℕ → List ℕ
 decimal n = digitsBefore 20 n []
+
+-- the number that digits in decimal notation stand for, behind digits that stand for n: what a text is held against
+abbrev pub valueOf : ℕ → List ℕ → ℕ
+valueOf n [] = n
+valueOf n (d ∷ more) = valueOf (n * 10 + (d - 48)) more
 
 abbrev pub space : List ℕ
 space = 32 ∷ []
