@@ -2,6 +2,7 @@
 // The definitions that the contracts cite are in specs/, in document 01's words and order.
 pub mod arcs;
 pub mod bytes;
+pub mod fields;
 pub mod marks;
 
 ghost use mathlib.Core.Path.{_≡_};
