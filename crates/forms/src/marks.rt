@@ -11,7 +11,7 @@ ghost use Rattle.forms.specs.AnswerForm.{signed32, inMarkAt, outMarkAt};
 ghost use Rattle.forms.specs.AnswerFaults.{markFault};
 
 // A mark in range with the limit added, which makes it a number that is not below 0.
-pub fn mark_plus(t: &[u8], at: usize) -> usize
+fn mark_plus(t: &[u8], at: usize) -> usize
     requires { ⌜ (at + 3 < length (now t)) × (markFault (now t) at ≡ 0) ⌝ }
     ensures { λ r. ⌜ (signed32 (now (t .entry)) at ≡ subℕ r 2000000000) × (r ≤ 4000000000) ⌝ }
 {
