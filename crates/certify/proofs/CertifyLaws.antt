@@ -1,5 +1,5 @@
 -- Numbers 19 and 21: a law for each way through the functions that test demands, reads and slacks.
-use Prim.Native.Nat.{ℕ, _+_, _-_, _*_, _/_, _%_, _<_, _≤_}
+use Prim.Native.Nat.{ℕ, _+_, _/_, _%_, _<_, _≤_}
 use native.Mathlib.Omega.{arith}
 use mathlib.Core.Path.{_≡_, refl, sym, ap, ap₂, _∙_}
 use mathlib.Core.List.{List}
@@ -7,7 +7,6 @@ use mathlib.Core.Bool.{Bool, true, false, cond, _&&_}
 use lib.Dec.{leb, eqb}
 use lib.ListN.{getD}
 use borrow.Author.Tests.{le-leb, lt-leb, eq-eqb, eqb-true}
-use Rattle.forms.specs.Bytes.{byte, be32}
 use Rattle.forms.specs.GraphReads.{Reads}
 use lib.IntN.{ℤ, pos, subℕ, _+ℤ_}
 use lib.Signed.{leZ}
@@ -29,17 +28,13 @@ module _ (s totals : List ℕ) (i : ℕ) where
   unfolding vertexUnmet
   vertex-met h = simp (le-leb _ _ h)
 
-  module _ (d at : ℕ) (read : d ≡ be32 s at) (stands : at ≡ arcAt s i + 6) where
-    its-demand : d ≡ arcDemand s (arcAt s i)
-    its-demand = read ∙ ap (be32 s) stands
+  pub arc-unmet : getD totals i 0 < arcDemand s (arcAt s i) → 19 ≡ arcUnmet s totals i
+  unfolding arcUnmet
+  arc-unmet h = simp (lt-leb _ _ h)
 
-    pub arc-unmet : getD totals i 0 < d → 19 ≡ arcUnmet s totals i
-    unfolding arcUnmet
-    arc-unmet h = simp (lt-leb (arcDemand s (arcAt s i)) (getD totals i 0) (omega (arith, its-demand)))
-
-    pub arc-met : d ≤ getD totals i 0 → 0 ≡ arcUnmet s totals i
-    unfolding arcUnmet
-    arc-met h = simp (le-leb (arcDemand s (arcAt s i)) (getD totals i 0) (omega (arith, its-demand)))
+  pub arc-met : arcDemand s (arcAt s i) ≤ getD totals i 0 → 0 ≡ arcUnmet s totals i
+  unfolding arcUnmet
+  arc-met h = simp (le-leb _ _ h)
 
 pub read-unmet : (met : List Bool) (r : ℕ) → getD met r false ≡ false → 19 ≡ readUnmet met r
 unfolding readUnmet
@@ -105,24 +100,14 @@ pub record ArcRead (s : List ℕ) (a u v cost : ℕ) : Type 0 where
   pub head : v ≡ arcHead s (arcAt s a)
   pub costs : cost ≡ arcCost s (arcAt s a)
 
-pub arc-read : {s : List ℕ} {n a u v cost : ℕ} → n ≡ vertexCount s → u ≡ byte s (13 + 5 * n + 10 * a) → v ≡ byte s (13 + 5 * n + 10 * a + 1) →
-    cost ≡ be32 s (13 + 5 * n + 10 * a + 2) → ArcRead s a u v cost
-arc-read {s} {n} {a} e tail head costs =
-    record {
-      tail = tail ∙ ap (λ m. byte s (13 + 5 * m + 10 * a)) e;
-      head = head ∙ ap (λ m. byte s (13 + 5 * m + 10 * a + 1)) e;
-      costs = costs ∙ ap (λ m. be32 s (13 + 5 * m + 10 * a + 2)) e;
-    }
+pub arc-read : {s : List ℕ} {a u v cost : ℕ} → u ≡ arcTail s (arcAt s a) → v ≡ arcHead s (arcAt s a) → cost ≡ arcCost s (arcAt s a) → ArcRead s a u v cost
+arc-read tail head costs = record { tail = tail; head = head; costs = costs }
 
-pub arc-demand-read : (s : List ℕ) (n a d : ℕ) → n ≡ vertexCount s → d ≡ be32 s (13 + 5 * n + 10 * a + 6) → d ≡ arcDemand s (arcAt s a)
-arc-demand-read s n a d e read = read ∙ ap (λ m. be32 s (13 + 5 * m + 10 * a + 6)) e
+pub tail-below : {s : List ℕ} {a u : ℕ} → Reads s → a < arcCount s → u ≡ arcTail s (arcAt s a) → u < vertexCount s
+tail-below {s} {a} r h tail = omega (arith, r .arcs .each a h .rises, r .arcs .each a h .inside)
 
-pub tail-below : {s : List ℕ} {n a u : ℕ} → Reads s → n ≡ vertexCount s → a < arcCount s → u ≡ byte s (13 + 5 * n + 10 * a) → u < vertexCount s
-tail-below {s} {n} {a} r e h tail =
-    omega (arith, r .arcs .each a h .rises, r .arcs .each a h .inside, tail ∙ ap (λ m. byte s (13 + 5 * m + 10 * a)) e)
-
-pub head-below : {s : List ℕ} {n a v : ℕ} → Reads s → n ≡ vertexCount s → a < arcCount s → v ≡ byte s (13 + 5 * n + 10 * a + 1) → v < vertexCount s
-head-below {s} {n} {a} r e h head = omega (arith, r .arcs .each a h .inside, head ∙ ap (λ m. byte s (13 + 5 * m + 10 * a + 1)) e)
+pub head-below : {s : List ℕ} {a v : ℕ} → Reads s → a < arcCount s → v ≡ arcHead s (arcAt s a) → v < vertexCount s
+head-below {s} {a} r h head = omega (arith, r .arcs .each a h .inside)
 
 -- The slack of an arc: o is its tail's out-mark and i its head's in-mark, with the limit added.
 module _ (s t : List ℕ) (a u v cost i o : ℕ) (read : ArcRead s a u v cost) (into : signed32 t (inMarkAt v) ≡ subℕ i markLimit) (out : signed32 t (outMarkAt u) ≡ subℕ o markLimit) where

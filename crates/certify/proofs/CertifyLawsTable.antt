@@ -11,8 +11,8 @@ use lib.Seq.{take-suc, take-suc-set, getD-drop, append-snoc, getD-set-same, getD
 use Rattle.mathematics.specs.Lists.{All}
 use Rattle.mathematics.proofs.Basics.{all-weaken}
 use Rattle.mathematics.proofs.Linked.{linked-rising}
-use Rattle.forms.specs.Bytes.{byte, part}
-use Rattle.forms.specs.GraphForm.{readCount, firstReadAt, readVertices}
+use Rattle.forms.specs.Bytes.{part}
+use Rattle.forms.specs.GraphForm.{readCount, firstReadAt, readLength, readVertices, readEnd}
 use Rattle.forms.specs.GraphOf.{graphOf, readsFrom, arcsOf}
 use Rattle.forms.specs.GraphReads.{Reads, ReadRight, ReadsRight}
 use Rattle.reads.specs.ReadTable.{rowsOf, used, ReadHolds, Leaves}
@@ -78,7 +78,7 @@ module _ {s : List ℕ} {rows : List (List ℕ)} {lens : List ℕ} {count at i :
   pub load-next : i < count → ReadRight s at
   load-next h = (rw (load-left h) at (l .right)) .0
 
-  module _ (len : ℕ) (row : List ℕ) (h : i < count) (e : len ≡ byte s at) (same : take len row ≡ part s (at + 1) len) (long : length row ≡ 64) where
+  module _ (len : ℕ) (row : List ℕ) (h : i < count) (e : len ≡ readLength s at) {from next : ℕ} (begins : from ≡ at + 1) (ends : next ≡ readEnd s at) (same : take len row ≡ part s from len) (long : length row ≡ 64) where
     room : i < 16
     room = omega (arith, l .counted, l .reads .arcs .header .few-reads)
 
@@ -97,7 +97,7 @@ module _ {s : List ℕ} {rows : List (List ℕ)} {lens : List ℕ} {count at i :
         let inside : i < length (used rows lens) = omega (arith, room, used-rows rows lens (l .sized .tall) (l .sized .sized)) in
         rw (add-one i, used-set rows lens i row len, take-suc-set (used rows lens) i (take len row) inside)
 
-    pub load-turn : Loading s (set rows i row) (set lens i len) count (at + 1 + len) (i + 1)
+    pub load-turn : Loading s (set rows i row) (set lens i len) count next (i + 1)
     unfolding rowsOf
     load-turn =
         record {
@@ -110,10 +110,10 @@ module _ {s : List ℕ} {rows : List (List ℕ)} {lens : List ℕ} {count at i :
             sized = simp length-set (l .sized .sized);
           };
           fit = fits;
-          right = rw e ((rw (load-left h) at (l .right)) .1);
+          right = rw ends ((rw (load-left h) at (l .right)) .1);
           same =
-              ap (λ q. q ++ readsFrom s (count - (i + 1)) (at + 1 + len)) front ∙
-              (append-snoc (take i (used rows lens)) (take len row) _ ∙ rw (same, e) (rw (load-left h) at (l .same)));
+              ap (λ q. q ++ readsFrom s (count - (i + 1)) next) front ∙
+              (append-snoc (take i (used rows lens)) (take len row) _ ∙ rw (same, begins, e, ends) (rw (load-left h) at (l .same)));
         }
 
   pub load-end : count ≤ i → Leaves rows lens count (graphOf s .reads)

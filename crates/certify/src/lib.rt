@@ -4,10 +4,23 @@ use forms::Found;
 use forms::Graph;
 use forms::Verdict;
 use forms::arcs::find_arc;
-use forms::bytes::be16;
-use forms::bytes::be32;
 use forms::bytes::wide;
-use forms::marks::mark_plus;
+use forms::fields::arc_cost;
+use forms::fields::arc_count;
+use forms::fields::arc_demand;
+use forms::fields::arc_head;
+use forms::fields::arc_tail;
+use forms::fields::first_read_at;
+use forms::fields::opening_price;
+use forms::fields::read_count;
+use forms::fields::read_end;
+use forms::fields::read_length;
+use forms::fields::read_vertices_at;
+use forms::fields::vertex_count;
+use forms::fields::vertex_demand;
+use forms::fields::vertex_flags;
+use forms::marks::in_mark_plus;
+use forms::marks::out_mark_plus;
 use reads::prepare_reads;
 ghost use mathlib.Core.Path.{_≡_};
 ghost use Prim.Native.Nat.{ℕ, _+_, _*_, _-_, _<_, _≤_};
@@ -33,10 +46,10 @@ fn vertices_unmet(s: &[u8], totals: &[usize; Graph::MAX_VERTICES]) -> Verdict
     requires { ⌜ Reads (now s) ⌝ }
     ensures { λ r. ⌜ r ≡ firstFault (vertexUnmet (now (s .entry)) (now (totals .entry))) (λ v. v) (vertexCount (now (s .entry))) 0 ⌝ }
 {
-    let n = wide(s[Graph::AT_VERTICES]);
+    let n = vertex_count(s);
     let mut v = 0;
     while v < n {
-        if totals[v] < be32(s, Graph::HEADER + Graph::VERTEX * v + 1) {
+        if totals[v] < vertex_demand(s, v) {
             return Verdict::new(19, v);
         }
         v += 1;
@@ -49,12 +62,11 @@ fn arcs_unmet(s: &[u8], totals: &[usize; Graph::MAX_ARCS]) -> Verdict
     requires { ⌜ Reads (now s) ⌝ }
     ensures { λ r. ⌜ r ≡ firstFault (arcUnmet (now (s .entry)) (now (totals .entry))) (arcPlace (now (s .entry))) (arcCount (now (s .entry))) 0 ⌝ }
 {
-    let n = wide(s[Graph::AT_VERTICES]);
-    let count = be16(s, Graph::AT_ARCS);
-    let base = Graph::HEADER + Graph::VERTEX * n;
+    let n = vertex_count(s);
+    let count = arc_count(s);
     let mut a = 0;
     while a < count {
-        if totals[a] < be32(s, base + Graph::ARC * a + 6) {
+        if totals[a] < arc_demand(s, n, a) {
             return Verdict::new(19, n + a);
         }
         a += 1;
@@ -67,14 +79,11 @@ fn reads_unmet(s: &[u8], met: &[bool; Graph::MAX_READS]) -> Verdict
     requires { ⌜ Reads (now s) ⌝ }
     ensures { λ r. ⌜ r ≡ firstFault (readUnmet (now (met .entry))) (readPlace (now (s .entry))) (readCount (now (s .entry))) 0 ⌝ }
 {
-    let count = wide(s[Graph::AT_READS]);
+    let count = read_count(s);
     let mut r = 0;
     while r < count {
         if !met[r] {
-            return Verdict::new(
-                19,
-                wide(s[Graph::AT_VERTICES]) + be16(s, Graph::AT_ARCS) + r,
-            );
+            return Verdict::new(19, vertex_count(s) + arc_count(s) + r);
         }
         r += 1;
     }
@@ -107,14 +116,14 @@ fn vertex_slack_fault(s: &[u8], t: &[u8], v: usize) -> usize
     requires { ⌜ Reads (now s) × MarksStand (vertexCount (now s)) (now t) × (v < vertexCount (now s)) ⌝ }
     ensures { λ r. ⌜ r ≡ vertexSlackFault (now (s .entry)) (now (t .entry)) v ⌝ }
 {
-    let into = mark_plus(t, Answer::HEADER + Answer::MARKS * v);
-    let out = mark_plus(t, Answer::HEADER + Answer::MARKS * v + Answer::MARK);
-    let flag = wide(s[Graph::HEADER + Graph::VERTEX * v]);
+    let into = in_mark_plus(t, v);
+    let out = out_mark_plus(t, v);
+    let flag = vertex_flags(s, v);
     if into < out {
         return 21;
     }
     if flag % 2 == 1 {
-        if be32(s, Graph::AT_OPENING) + Answer::MARK_LIMIT < into {
+        if opening_price(s) + Answer::MARK_LIMIT < into {
             return 21;
         }
     }
@@ -131,7 +140,7 @@ fn vertex_slacks(s: &[u8], t: &[u8]) -> Verdict
     requires { ⌜ Reads (now s) × MarksStand (vertexCount (now s)) (now t) ⌝ }
     ensures { λ r. ⌜ r ≡ firstFault (vertexSlackFault (now (s .entry)) (now (t .entry))) (λ v. v) (vertexCount (now (s .entry))) 0 ⌝ }
 {
-    let n = wide(s[Graph::AT_VERTICES]);
+    let n = vertex_count(s);
     let mut v = 0;
     while v < n {
         let fault = vertex_slack_fault(s, t, v);
@@ -143,18 +152,14 @@ fn vertex_slacks(s: &[u8], t: &[u8]) -> Verdict
     Verdict::new(0, 0)
 }
 
-// What is wrong with the slack of the arc whose record is at an offset.
+// What is wrong with the slack of arc a.
 fn arc_slack_fault(s: &[u8], t: &[u8], n: usize, a: usize) -> usize
     requires { ⌜ Reads (now s) × MarksStand (vertexCount (now s)) (now t) × (n ≡ vertexCount (now s)) × (a < arcCount (now s)) ⌝ }
     ensures { λ r. ⌜ r ≡ arcSlackFault (now (s .entry)) (now (t .entry)) a ⌝ }
 {
-    let at = Graph::HEADER + Graph::VERTEX * n + Graph::ARC * a;
-    let out = mark_plus(
-        t,
-        Answer::HEADER + Answer::MARKS * wide(s[at]) + Answer::MARK,
-    );
-    let into = mark_plus(t, Answer::HEADER + Answer::MARKS * wide(s[at + 1]));
-    if be32(s, at + 2) + out < into {
+    let out = out_mark_plus(t, arc_tail(s, n, a));
+    let into = in_mark_plus(t, arc_head(s, n, a));
+    if arc_cost(s, n, a) + out < into {
         return 21;
     }
     0
@@ -165,8 +170,8 @@ fn arc_slacks(s: &[u8], t: &[u8]) -> Verdict
     requires { ⌜ Reads (now s) × MarksStand (vertexCount (now s)) (now t) ⌝ }
     ensures { λ r. ⌜ r ≡ firstFault (arcSlackFault (now (s .entry)) (now (t .entry))) (arcPlace (now (s .entry))) (arcCount (now (s .entry))) 0 ⌝ }
 {
-    let n = wide(s[Graph::AT_VERTICES]);
-    let count = be16(s, Graph::AT_ARCS);
+    let n = vertex_count(s);
+    let count = arc_count(s);
     let mut a = 0;
     while a < count {
         let fault = arc_slack_fault(s, t, n, a);
@@ -209,17 +214,15 @@ pub fn load_reads(s: &[u8], rows: &mut [[u8; 64]; 16], lens: &mut [usize; 16]) -
     requires { ⌜ Reads (now s) × TableSized (now rows) (now lens) ⌝ }
     ensures { λ r. ⌜ Leaves (now (rows .exit)) (now (lens .exit)) r (graphOf (now (s .entry)) .reads) ⌝ }
 {
-    let count = wide(s[Graph::AT_READS]);
-    let mut at = Graph::HEADER
-        + Graph::VERTEX * wide(s[Graph::AT_VERTICES])
-        + Graph::ARC * be16(s, Graph::AT_ARCS);
+    let count = read_count(s);
+    let mut at = first_read_at(s);
     let mut i = 0;
     while i < count {
-        let len = wide(s[at]);
-        let row = row_of(s, at + 1, len);
+        let len = read_length(s, at);
+        let row = row_of(s, read_vertices_at(s, at), len);
         rows[i] = row;
         lens[i] = len;
-        at = at + 1 + len;
+        at = read_end(s, at);
         i += 1;
     }
     count
@@ -306,9 +309,9 @@ fn vertex_part(s: &[u8], t: &[u8], v: usize, reads: usize) -> usize
     requires { ⌜ NoneBelow (now s) (now t) × (reads ≤ 10000) ⌝ }
     ensures { λ r. ⌜ Part (vertexPart (now (s .entry)) (now (t .entry)) v reads) r ⌝ }
 {
-    let owed = rest(be32(s, Graph::HEADER + Graph::VERTEX * v + 1), reads) + reads;
-    let into = mark_plus(t, Answer::HEADER + Answer::MARKS * v);
-    let out = mark_plus(t, Answer::HEADER + Answer::MARKS * v + Answer::MARK);
+    let owed = rest(vertex_demand(s, v), reads) + reads;
+    let into = in_mark_plus(t, v);
+    let out = out_mark_plus(t, v);
     owed * (into - out)
 }
 
@@ -318,14 +321,10 @@ fn arc_part(s: &[u8], t: &[u8], n: usize, a: usize, reads: usize) -> usize
     requires { ⌜ NoneBelow (now s) (now t) × (reads ≤ 10000) ⌝ }
     ensures { λ r. ⌜ Part (arcPart (now (s .entry)) (now (t .entry)) a reads) r ⌝ }
 {
-    let at = Graph::HEADER + Graph::VERTEX * n + Graph::ARC * a;
-    let out = mark_plus(
-        t,
-        Answer::HEADER + Answer::MARKS * wide(s[at]) + Answer::MARK,
-    );
-    let into = mark_plus(t, Answer::HEADER + Answer::MARKS * wide(s[at + 1]));
-    let owed = rest(be32(s, at + 6), reads) + reads;
-    owed * (be32(s, at + 2) + out - into)
+    let out = out_mark_plus(t, arc_tail(s, n, a));
+    let into = in_mark_plus(t, arc_head(s, n, a));
+    let owed = rest(arc_demand(s, n, a), reads) + reads;
+    owed * (arc_cost(s, n, a) + out - into)
 }
 
 // The parts of the vertices, in total.
@@ -334,7 +333,7 @@ fn vertices_sum(s: &[u8], t: &[u8], reads: &[usize; Graph::MAX_VERTICES]) -> usi
     requires { ⌜ ((v : ℕ) → v < vertexCount (now s) → getD (now reads) v 0 ≤ 10000) ⌝ }
     ensures { λ r. ⌜ Sum (sumFrom (λ v. vertexPart (now (s .entry)) (now (t .entry)) v (getD (now (reads .entry)) v 0)) (vertexCount (now (s .entry))) 0) 64 r ⌝ }
 {
-    let n = wide(s[Graph::AT_VERTICES]);
+    let n = vertex_count(s);
     let mut sum = 0;
     let mut v = 0;
     while v < n {
@@ -350,8 +349,8 @@ fn arcs_sum(s: &[u8], t: &[u8], reads: &[usize; Graph::MAX_ARCS]) -> usize
     requires { ⌜ ((a : ℕ) → a < arcCount (now s) → getD (now reads) a 0 ≤ 10000) ⌝ }
     ensures { λ r. ⌜ Sum (sumFrom (λ a. arcPart (now (s .entry)) (now (t .entry)) a (getD (now (reads .entry)) a 0)) (arcCount (now (s .entry))) 0) 256 r ⌝ }
 {
-    let n = wide(s[Graph::AT_VERTICES]);
-    let count = be16(s, Graph::AT_ARCS);
+    let n = vertex_count(s);
+    let count = arc_count(s);
     let mut sum = 0;
     let mut a = 0;
     while a < count {

@@ -54,16 +54,16 @@ pub record MarksLeft (t : List ℕ) (n left at : ℕ) : Type 0 where
   pub place : at + 4 * left ≡ 15 + 8 * n
   pub decide : marksVerdict t (2 * n) 15 nothingRefused ≡ marksVerdict t left at nothingRefused
 
-pub marks-begin : (t : List ℕ) (n : ℕ) → MarksLeft t n (2 * n) 15
-marks-begin t n = record { place = omega arith; decide = refl }
+pub marks-begin : (t : List ℕ) (n : ℕ) {at : ℕ} → at ≡ 15 → MarksLeft t n (2 * n) at
+marks-begin t n e = record { place = omega arith; decide = rw e }
 
 -- a mark in range, a mark out of range, none left
 module _ {t : List ℕ} {n left at : ℕ} (inv : MarksLeft t n left at) where
-  pub marks-turn : 0 < left → markFault t at ≡ 0 → MarksLeft t n (left - 1) (at + 4)
-  marks-turn some e =
+  pub marks-turn : {next : ℕ} → 0 < left → markFault t at ≡ 0 → next ≡ at + 4 → MarksLeft t n (left - 1) next
+  marks-turn some e ends =
       record {
         place = omega arith;
-        decide = inv .decide ∙ marks-split t left at some ∙ simp (eq-eqb _ _ e);
+        decide = inv .decide ∙ marks-split t left at some ∙ simp (eq-eqb _ _ e, ends);
       }
 
   pub marks-stop : (fault : ℕ) → 0 < left → fault ≡ markFault t at → (fault ≡ 0 → ⊥) → refusal fault at ≡ marksVerdict t (2 * n) 15 nothingRefused

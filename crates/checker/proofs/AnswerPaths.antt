@@ -99,11 +99,11 @@ module _ (s t : List ℕ) (at : ℕ) (before : List ℕ) (copies : ℕ) where
   pub record-refused : {vb va ab aa : List ℕ} {mb ma : List Bool} {fault : ℕ} → fault ≡ pathFault s t at before copies → (fault ≡ 0 → ⊥) → PathRead s t at before copies vb va ab aa mb ma fault 0
   record-refused e wrong = record { is-fault = e; tallied = λ z. absurd (wrong z) }
 
-  module _ (head : PathHead t at copies) (headed : pathHeadFault t at copies ≡ 0) {w l : ℕ} (weighs : w ≡ pathWeight t at) (counts : l ≡ pathLength t at) where
-    same-path : part t (at + 5) l ≡ pathVertices t at
-    same-path = rw counts
+  module _ (head : PathHead t at copies) (headed : pathHeadFault t at copies ≡ 0) {w l b : ℕ} (weighs : w ≡ pathWeight t at) (counts : l ≡ pathLength t at) (stands : b ≡ at + pathHeaderLength) where
+    same-path : part t b l ≡ pathVertices t at
+    same-path = rw (stands, counts)
 
-    module _ {vb va ab aa : List ℕ} {ok : Bool} {cost : ℕ} (walked : PathWalked s (part t (at + 5) l) w vb va ab aa ok cost) where
+    module _ {vb va ab aa : List ℕ} {ok : Bool} {cost : ℕ} (walked : PathWalked s (part t b l) w vb va ab aa ok cost) where
       pub record-no-path : {mb ma : List Bool} → ok ≡ false → PathRead s t at before copies vb va ab aa mb ma 16 0
       record-no-path e =
           record-refused (fault-walk s t at before copies headed (rw same-path at (sym (walked .is-right) ∙ e))) (λ z. omega arith)
@@ -112,12 +112,12 @@ module _ (s t : List ℕ) (at : ℕ) (before : List ℕ) (copies : ℕ) where
         walks : (allBelow (vertexCount s) (pathVertices t at) && isPath (graphOf s) (pathVertices t at)) ≡ true
         walks = rw same-path at (sym (walked .is-right) ∙ is-path)
 
-        module _ {o : Bool} (ordered : o ≡ listBefore before (part t (at + 5) l)) where
+        module _ {o : Bool} (ordered : o ≡ listBefore before (part t b l)) where
           pub record-no-order : {mb ma : List Bool} → o ≡ false → PathRead s t at before copies vb va ab aa mb ma 18 0
           record-no-order e =
               record-refused (fault-order s t at before copies headed walks (rw same-path at (sym ordered ∙ e))) (λ z. omega arith)
 
-          pub record-right : {mb ma : List Bool} → o ≡ true → Marked s (part t (at + 5) l) mb ma → PathRead s t at before copies vb va ab aa mb ma 0 cost
+          pub record-right : {mb ma : List Bool} → o ≡ true → Marked s (part t b l) mb ma → PathRead s t at before copies vb va ab aa mb ma 0 cost
           record-right e marked =
               record {
                 is-fault = fault-none s t at before copies headed walks (rw same-path at (sym ordered ∙ e));
@@ -297,8 +297,8 @@ module _ {s t vl al : List ℕ} {met : List Bool} {p lp copies cost left at : �
         }
 
     -- the next record, from what the code has read
-    pub paths-turn : {w l o : ℕ} → w ≡ pathWeight t at → l ≡ pathLength t at → o ≡ openingPrice s → openingPrice s ≤ maxOpening → PathsLeft s t va aa ma (at + 5) l (copies + w) (cost + w * (o + c)) (left - 1) (at + 5 + l)
-    paths-turn weighs counts opens low = rw (weighs, counts, opens) (turned low)
+    pub paths-turn : {w l b o : ℕ} → w ≡ pathWeight t at → l ≡ pathLength t at → b ≡ at + pathHeaderLength → o ≡ openingPrice s → openingPrice s ≤ maxOpening → PathsLeft s t va aa ma b l (copies + w) (cost + w * (o + c)) (left - 1) (b + l)
+    paths-turn weighs counts stands opens low = rw (stands, weighs, counts, opens) (turned low)
 
 -- the same, told by a result that has these numbers
 pub paths-told : {s t vl al : List ℕ} {met : List Bool} {number place cost n q k : ℕ} → (number ≡ n) × (place ≡ q) × (cost ≡ k) → PathsRead s t vl al met n q k → PathsRead s t vl al met number place cost

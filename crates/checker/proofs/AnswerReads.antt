@@ -158,19 +158,19 @@ module _ {s p : List ℕ} {before met : List Bool} {r at : ℕ} (inv : ReadsLeft
         let e : r + suc k ≡ r + 1 + k = omega arith in
         rw (e, split) at (inv .rest (suc k))
 
-    module _ (m : Bool) (la : ℕ) (long : la ≡ readLength s at) (e : m ≡ (getD met r false || holds p (part s (at + 1) la))) where
+    module _ (m : Bool) (la : ℕ) (long : la ≡ readLength s at) {from next : ℕ} (begins : from ≡ at + 1) (ends : next ≡ readEnd s at) (e : m ≡ (getD met r false || holds p (part s from la))) where
       marked : (k : ℕ) → k < r + 1 → Dec (k < r) → getD (set met r m) k false ≡ (getD before k false || holds p (readOf s k))
       marked k l (yes h) = getD-set-other met r k m false (omega arith) ∙ inv .done k h
       marked k l (no h) =
           let same : k ≡ r = omega arith in
-          rw (same, getD-set-same met r m false (omega arith), e, inv .kept r (le-refl r), this-read, long)
+          rw (same, getD-set-same met r m false (omega arith), e, inv .kept r (le-refl r), this-read, begins, long)
 
-      pub reads-turn : ReadsLeft s p before (set met r m) (r + 1) (at + 1 + la)
+      pub reads-turn : ReadsLeft s p before (set met r m) (r + 1) next
       reads-turn =
           record {
             within = simp length-set (omega arith);
-            right = rw long ((rw split at (inv .right)) .1);
-            rest = λ k. rw long (later-read k);
+            right = rw ends ((rw split at (inv .right)) .1);
+            rest = λ k. rw ends (later-read k);
             done = λ k l. marked k l (decLt k r);
             kept = λ k l. getD-set-other met r k m false (omega arith) ∙ inv .kept k (omega arith);
           }

@@ -18,7 +18,7 @@ use Rattle.mathematics.proofs.Basics.{and-r}
 use Rattle.mathematics.proofs.Parts.{Rising}
 use Rattle.mathematics.proofs.Linked.{path-rising}
 use Rattle.forms.specs.declared.Found.the-variants.{At, Missing}
-use Rattle.forms.specs.Bytes.{byte, be32, part, tabulate}
+use Rattle.forms.specs.Bytes.{byte, part, tabulate}
 use Rattle.forms.specs.Limits.{maxVertices, maxArcs, maxCost, maxWeight}
 use Rattle.forms.specs.GraphForm.{vertexCount, arcCount, flags, arcAt, arcCost}
 use Rattle.forms.specs.GraphOf.{graphOf, vertexOf, arcsOf, arcItem}
@@ -48,12 +48,6 @@ module _ (s : List ℕ) (v : ℕ) (inside : v < vertexCount s) where
   pub end-is : isEnd (graphOf s) v ≡ eqb (flags s v / 2) 1
   unfolding graphOf
   end-is = ap (λ (x : Vertex). x .end) (getD-tabulate (vertexOf s) (vertexCount s) 0 v noVertex inside) ∙ rw zero-add
-
--- the cost of arc k, read where it stands
-pub cost-read : (s : List ℕ) (n k r : ℕ) → Reads s → n ≡ vertexCount s → k < arcCount s → r ≡ be32 s (13 + 5 * n + 10 * k + 2) → (r ≡ arcCost s (arcAt s k)) × (r ≤ maxCost)
-cost-read s n k r reads e inside read =
-    let same : r ≡ arcCost s (arcAt s k) = rw e at read in
-    (same, omega (arith, reads .arcs .each k inside .low-cost))
 
 -- what goes on from u to v and from there along q
 module _ (s : List ℕ) (u v : ℕ) (q : List ℕ) where

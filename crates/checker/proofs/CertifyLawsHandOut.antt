@@ -1,5 +1,5 @@
 -- The hand-out: the records of an accepted answer's paths lie within it, and a walk over them finds path k.
-use Prim.Native.Nat.{ℕ, zero, suc, _+_, _-_, _*_, _<_, _≤_}
+use Prim.Native.Nat.{ℕ, zero, suc, _+_, _-_, _<_, _≤_}
 use native.Mathlib.Numerals.{add-one}
 use native.Mathlib.Omega.{arith}
 use mathlib.Core.Path.{_≡_, refl, sym, ap, _∙_}
@@ -8,10 +8,10 @@ use mathlib.Core.Bool.{Bool, true, false, cond}
 use lib.Dec.{ltb}
 use lib.ListN.{length, take, drop}
 use borrow.Author.Tests.{lt-ltb, le-ltb, ltb-true, eq-eqb, ne-eqb}
-use Rattle.forms.specs.Bytes.{byte, part}
+use Rattle.forms.specs.Bytes.{part}
 use Rattle.forms.specs.GraphForm.{vertexCount}
 use Rattle.forms.specs.GraphFaults.{refusal, nothingRefused}
-use Rattle.forms.specs.AnswerForm.{pathCount, firstPathAt, pathEnd, pathVertices}
+use Rattle.forms.specs.AnswerForm.{pathCount, firstPathAt, pathHeaderLength, pathLength, pathEnd, pathVertices}
 use Rattle.checker.specs.Check.{checkVerdict, handOutVerdict, pathAt, handedOut}
 use Rattle.checker.specs.Tallies.{PathsStand}
 use Rattle.checker.specs.Accepted.{PathsRight, Accepted}
@@ -32,8 +32,8 @@ module _ {t : List ℕ} {k from at left : ℕ} (p : Passing t k from at left) wh
   pub pass-within : pathEnd t at ≤ length t
   pass-within = first-stands t left at (p .stands) .0
 
-  pub pass-turn : (length : ℕ) → length ≡ byte t (at + 4) → 0 < left → Passing t k from (at + 5 + length) (left - 1)
-  pass-turn length e h =
+  pub pass-turn : {next : ℕ} → next ≡ pathEnd t at → 0 < left → Passing t k from next (left - 1)
+  pass-turn e h =
       let split : left ≡ suc (left - 1) = omega arith in
       let more : left - 1 + 1 ≡ left = omega arith in
       record {
@@ -82,10 +82,10 @@ pub nothing-handed : (s t : List ℕ) (k : ℕ) → (handOutVerdict s t k .numbe
 unfolding handedOut
 nothing-handed s t k h = simp (ne-eqb (handOutVerdict s t k .number) 0 h)
 
-pub path-handed : (s t : List ℕ) (k at len n : ℕ) → handOutVerdict s t k .number ≡ 0 → n ≡ vertexCount s → at ≡ pathAt t k (15 + 8 * n) → len ≡ byte t (at + 4) →
-    take (at + 5 + len - (at + 5)) (drop (at + 5) t) ≡ handedOut s t k
+pub path-handed : (s t : List ℕ) (k : ℕ) {n from at start end : ℕ} → handOutVerdict s t k .number ≡ 0 → n ≡ vertexCount s → from ≡ firstPathAt n → at ≡ pathAt t k from →
+    start ≡ at + pathHeaderLength → end ≡ pathEnd t at → take (end - start) (drop start t) ≡ handedOut s t k
 unfolding handedOut part
-path-handed s t k at len n h counted e read =
-    let long : at + 5 + len - (at + 5) ≡ len = omega arith in
-    let here : at ≡ pathAt t k (firstPathAt (vertexCount s)) = e ∙ ap (λ m. pathAt t k (15 + 8 * m)) counted in
-    simp (eq-eqb (handOutVerdict s t k .number) 0 h) (rw (long, read) (ap (pathVertices t) here))
+path-handed s t k {n} {from} {at} {start} {end} h counted first e begins ends =
+    let long : end - start ≡ pathLength t at = omega arith in
+    let here : at ≡ pathAt t k (firstPathAt (vertexCount s)) = e ∙ ap (pathAt t k) (first ∙ ap firstPathAt counted) in
+    simp (eq-eqb (handOutVerdict s t k .number) 0 h) (rw (long, begins) (ap (pathVertices t) here))

@@ -68,7 +68,7 @@ read-passes : (s : List ℕ) (at : ℕ) → ReadRight s at → readFault s at �
 unfolding walks
 read-passes s at r =
     sym
-    (read-right s at (r .begins) (r .not-short) (r .not-long) (r .whole) refl
+    (read-right s at (r .begins) (r .not-short) (r .not-long) (r .whole) refl refl
     (ap₂ (λ x y. x && y) (sym (all-below (vertexCount s) (readVertices s at) (r .inside))) (sym (is-true _ (r .arcs)))) refl)
 
 reads-pass : (s : List ℕ) (count at : ℕ) → ReadsRight s count at → nothingRefused ≡ readsVerdict s count at
@@ -79,7 +79,7 @@ reads-pass s (suc count) at r = simp (eq-eqb (readFault s at) 0 (read-passes s a
 arc-passes : (s : List ℕ) → ArcsRight s → (a : ℕ) → a < arcCount s → arcFault s (arcAt s a) ≡ 0
 arc-passes s right a h =
     let r = right .each a h in
-    sym (arc-last s (arcAt s a) (r .whole) (r .low-cost) (r .low-demand) (r .rises) (r .inside) (order a h))
+    sym (arc-last s a (r .whole) (r .low-cost) (r .low-demand) (r .rises) (r .inside) (order a h))
   where
     order : (a : ℕ) → a < arcCount s → ascends s (arcAt s a) ≡ true
     order zero h = simp (eq-eqb (arcAt s 0) (arcAt s 0) refl)

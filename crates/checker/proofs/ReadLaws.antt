@@ -33,12 +33,12 @@ module _ (s : List ℕ) (at : ℕ) where
         unfolding readFault
         read-short h = simp (lt-leb _ _ begins, le-ltb _ _ not-few, le-ltb _ _ not-many, lt-ltb _ _ h)
 
-        module _ (whole : readEnd s at ≤ length s) {count : ℕ} (read : count ≡ readLength s at) {w : Bool} (walked : w ≡ walks (vertexCount s) (arcsOf s) (part s (at + 1) count)) where
+        module _ (whole : readEnd s at ≤ length s) {count from : ℕ} (read : count ≡ readLength s at) (stands : from ≡ at + 1) {w : Bool} (walked : w ≡ walks (vertexCount s) (arcsOf s) (part s from count)) where
           last : readFault s at ≡ cond w 0 7
           unfolding readFault
           last =
               simp (lt-leb _ _ begins, le-ltb _ _ not-few, le-ltb _ _ not-many, le-ltb _ _ whole)
-              (ap (λ b. cond b 0 7) (sym (walked ∙ ap (λ k. walks (vertexCount s) (arcsOf s) (part s (at + 1) k)) read)))
+              (ap (λ b. cond b 0 7) (sym (rw (read, stands) at walked)))
 
           pub read-broken : w ≡ false → 7 ≡ readFault s at
           read-broken e = sym (last ∙ ap (λ b. cond b 0 7) e)

@@ -7,7 +7,6 @@ use mathlib.Core.Bool.{Bool, true, false, cond, _&&_, _||_}
 use lib.ListN.{length}
 use lib.Dec.{ltb, eqb}
 use borrow.Author.Tests.{lt-ltb, le-ltb, eq-eqb, ne-eqb, ltb-false, eqb-true}
-use Rattle.forms.specs.Bytes.{byte, be16}
 use Rattle.forms.specs.Limits.{maxDemand, maxCost}
 use Rattle.forms.specs.GraphForm.{vertexLength, vertexAt, flags, vertexDemand, arcLength, arcAt, arcCost, arcDemand, arcTail, arcHead, vertexCount}
 use Rattle.forms.specs.GraphFaults.{vertexFault, ascends, arcFault}
@@ -29,7 +28,10 @@ module _ (s : List ℕ) (v : ℕ) where
   unfolding vertexFault
   vertex-right h f d = simp (le-ltb _ _ h, le-ltb _ _ f, le-ltb _ _ d)
 
--- Tail and head as one number: an arc comes after another exactly where its number is higher.
+-- Tail and head of arc a as one number: an arc comes after another exactly where its number is higher.
+abbrev endsOf : List ℕ → ℕ → ℕ
+endsOf s a = arcTail s (arcAt s a) * 256 + arcHead s (arcAt s a)
+
 higher : (t h t′ h′ : ℕ) → h′ < 256 → t * 256 + h < t′ * 256 + h′ → (b : Bool) → ltb t t′ ≡ b → (b || (eqb t t′ && ltb h h′)) ≡ true
 higher t h t′ h′ b l true e = refl
 higher t h t′ h′ b l false e =
@@ -40,44 +42,50 @@ not-higher : (t h t′ h′ : ℕ) → h < 256 → t′ * 256 + h′ ≤ t * 256
 not-higher t h t′ h′ b l true e = simp (le-ltb t t′ (omega (arith, eqb-true t t′ e)), le-ltb h h′ (omega (arith, eqb-true t t′ e)))
 not-higher t h t′ h′ b l false e = simp (le-ltb t t′ (omega arith))
 
-module _ (s : List ℕ) (at : ℕ) where
-  pub arc-short : length s < at + arcLength → 5 ≡ arcFault s at
+module _ (s : List ℕ) (a : ℕ) where
+  pub arc-short : length s < arcAt s a + arcLength → 5 ≡ arcFault s (arcAt s a)
   unfolding arcFault
   arc-short h = simp (lt-ltb _ _ h)
 
-  module _ (whole : at + arcLength ≤ length s) where
-    pub arc-cost : maxCost < arcCost s at → 4 ≡ arcFault s at
+  module _ (whole : arcAt s a + arcLength ≤ length s) where
+    pub arc-cost : maxCost < arcCost s (arcAt s a) → 4 ≡ arcFault s (arcAt s a)
     unfolding arcFault
     arc-cost h = simp (le-ltb _ _ whole, lt-ltb _ _ h)
 
-    module _ (cost : arcCost s at ≤ maxCost) where
-      pub arc-demand : maxDemand < arcDemand s at → 4 ≡ arcFault s at
+    module _ (cost : arcCost s (arcAt s a) ≤ maxCost) where
+      pub arc-demand : maxDemand < arcDemand s (arcAt s a) → 4 ≡ arcFault s (arcAt s a)
       unfolding arcFault
       arc-demand h = simp (le-ltb _ _ whole, le-ltb _ _ cost, lt-ltb _ _ h)
 
-      module _ (demand : arcDemand s at ≤ maxDemand) where
-        pub arc-falls : arcHead s at ≤ arcTail s at → 6 ≡ arcFault s at
+      module _ (demand : arcDemand s (arcAt s a) ≤ maxDemand) where
+        pub arc-falls : arcHead s (arcAt s a) ≤ arcTail s (arcAt s a) → 6 ≡ arcFault s (arcAt s a)
         unfolding arcFault
         arc-falls h = simp (le-ltb _ _ whole, le-ltb _ _ cost, le-ltb _ _ demand, le-ltb _ _ h)
 
-        module _ (rises : arcTail s at < arcHead s at) where
-          pub arc-outside : vertexCount s ≤ arcHead s at → 6 ≡ arcFault s at
+        module _ (rises : arcTail s (arcAt s a) < arcHead s (arcAt s a)) where
+          pub arc-outside : vertexCount s ≤ arcHead s (arcAt s a) → 6 ≡ arcFault s (arcAt s a)
           unfolding arcFault
           arc-outside h = simp (le-ltb _ _ whole, le-ltb _ _ cost, le-ltb _ _ demand, lt-ltb _ _ rises, le-ltb _ _ h)
 
-          module _ (inside : arcHead s at < vertexCount s) where
-            pub arc-last : ascends s at ≡ true → 0 ≡ arcFault s at
+          module _ (inside : arcHead s (arcAt s a) < vertexCount s) where
+            pub arc-last : ascends s (arcAt s a) ≡ true → 0 ≡ arcFault s (arcAt s a)
             unfolding arcFault
             arc-last h = simp (le-ltb _ _ whole, le-ltb _ _ cost, le-ltb _ _ demand, lt-ltb _ _ rises, lt-ltb _ _ inside) (ap (λ b. cond b 0 6) (sym h))
 
-            pub arc-first : at ≡ arcAt s 0 → 0 ≡ arcFault s at
-            arc-first h = arc-last (simp (eq-eqb _ _ h))
+            pub arc-first : a ≡ 0 → 0 ≡ arcFault s (arcAt s a)
+            arc-first h = arc-last (simp (eq-eqb _ _ (ap (arcAt s) h)))
 
-            module _ (later : at ≡ arcAt s 0 → ⊥) (bytes : (k : ℕ) → byte s k < 256) where
-              pub arc-repeats : be16 s at ≤ be16 s (at - arcLength) → 6 ≡ arcFault s at
-              unfolding arcFault be16
-              arc-repeats h = simp (le-ltb _ _ whole, le-ltb _ _ cost, le-ltb _ _ demand, lt-ltb _ _ rises, lt-ltb _ _ inside, ne-eqb _ _ later, not-higher _ _ _ _ (bytes (at - arcLength + 1)) h _ refl)
+            -- the record before it
+            module _ (later : a ≡ 0 → ⊥) where
+              not-first : arcAt s a ≡ arcAt s 0 → ⊥
+              not-first e = later (omega arith)
 
-              pub arc-right : be16 s (at - arcLength) < be16 s at → 0 ≡ arcFault s at
-              unfolding be16
-              arc-right h = arc-last (simp (ne-eqb _ _ later, higher _ _ _ _ (bytes (at + 1)) h _ refl))
+              prior : arcAt s (a - 1) ≡ arcAt s a - arcLength
+              prior = omega arith
+
+              pub arc-repeats : arcHead s (arcAt s (a - 1)) < 256 → endsOf s a ≤ endsOf s (a - 1) → 6 ≡ arcFault s (arcAt s a)
+              unfolding arcFault
+              arc-repeats low h = simp (le-ltb _ _ whole, le-ltb _ _ cost, le-ltb _ _ demand, lt-ltb _ _ rises, lt-ltb _ _ inside, ne-eqb _ _ not-first, not-higher _ _ _ _ (rw prior at low) (rw prior at h) _ refl)
+
+              pub arc-right : arcHead s (arcAt s a) < 256 → endsOf s (a - 1) < endsOf s a → 0 ≡ arcFault s (arcAt s a)
+              arc-right low h = arc-last (simp (ne-eqb _ _ not-first, higher _ _ _ _ low (rw prior at h) _ refl))

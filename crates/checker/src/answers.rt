@@ -4,9 +4,29 @@ use forms::Found;
 use forms::Graph;
 use forms::Verdict;
 use forms::arcs::find_arc;
-use forms::bytes::be16;
-use forms::bytes::be32;
 use forms::bytes::wide;
+use forms::fields::answer_length_word;
+use forms::fields::answer_version;
+use forms::fields::answer_version_at;
+use forms::fields::arc_cost;
+use forms::fields::first_path_at;
+use forms::fields::first_read_at;
+use forms::fields::in_mark_at;
+use forms::fields::mark_bits;
+use forms::fields::mark_end;
+use forms::fields::opening_price;
+use forms::fields::path_count;
+use forms::fields::path_count_at;
+use forms::fields::path_end;
+use forms::fields::path_length;
+use forms::fields::path_vertices_at;
+use forms::fields::path_weight;
+use forms::fields::read_count;
+use forms::fields::read_end;
+use forms::fields::read_length;
+use forms::fields::read_vertices_at;
+use forms::fields::vertex_count;
+use forms::fields::vertex_flags;
 ghost use mathlib.Core.Path.{_≡_};
 ghost use Prim.Native.Nat.{_+_, _*_, _<_, _≤_};
 ghost use mathlib.Core.List.{_∷_};
@@ -15,10 +35,10 @@ ghost use mathlib.Core.Bool.{_||_};
 ghost use Rattle.mathematics.specs.Lists.{holds, Rising};
 ghost use Rattle.mathematics.specs.Graph.{isStart, isEnd};
 ghost use Rattle.forms.specs.Bytes.{part};
-ghost use Rattle.forms.specs.GraphForm.{vertexCount, arcCount, flags, arcAt, arcCost};
+ghost use Rattle.forms.specs.GraphForm.{headerLength, vertexCount};
 ghost use Rattle.forms.specs.GraphOf.{graphOf};
 ghost use Rattle.forms.specs.GraphFaults.{nothingRefused};
-ghost use Rattle.forms.specs.Limits.{maxReads, maxCost, maxWeight};
+ghost use Rattle.forms.specs.Limits.{maxReads, maxWeight};
 ghost use Rattle.forms.specs.GraphReads.{Reads};
 ghost use Rattle.forms.specs.ArcTable.{ArcTable};
 ghost use Rattle.checker.specs.Tallies.{Marked, Room, Walked, PathWalked, goesOnTo, pathHeadFault, PathHead, PathRead, NothingTallied, PathsRead};
@@ -28,31 +48,31 @@ ghost use Rattle.forms.specs.AnswerFaults.{answerHeaderVerdict, markFault, mark
 
 // What is wrong with the header: 11, 12 or 13.
 pub fn header_verdict(s: &[u8], t: &[u8]) -> Verdict
-    requires { ⌜ 5 < length (now s) ⌝ }
+    requires { ⌜ headerLength ≤ length (now s) ⌝ }
     ensures { λ r. ⌜ r ≡ answerHeaderVerdict (now (s .entry)) (now (t .entry)) nothingRefused ⌝ }
 {
-    if t.len() < Answer::HEADER + Answer::MARKS * wide(s[Graph::AT_VERTICES]) {
+    if t.len() < first_path_at(vertex_count(s)) {
         return Verdict {
             number: 11,
             place: 0,
         };
     }
-    if be32(t, 0) != t.len() {
+    if answer_length_word(t) != t.len() {
         return Verdict {
             number: 11,
             place: 0,
         };
     }
-    if wide(t[Answer::AT_VERSION]) != 1 {
+    if answer_version(t) != 1 {
         return Verdict {
             number: 12,
-            place: Answer::AT_VERSION,
+            place: answer_version_at(),
         };
     }
-    if Answer::MAX_PATHS < be16(t, Answer::AT_PATHS) {
+    if Answer::MAX_PATHS < path_count(t) {
         return Verdict {
             number: 13,
-            place: Answer::AT_PATHS,
+            place: path_count_at(),
         };
     }
     Verdict {
@@ -66,7 +86,7 @@ fn mark_fault(t: &[u8], at: usize) -> usize
     requires { ⌜ at + 3 < length (now t) ⌝ }
     ensures { λ r. ⌜ r ≡ markFault (now (t .entry)) at ⌝ }
 {
-    let x = be32(t, at);
+    let x = mark_bits(t, at);
     if x <= Answer::MARK_LIMIT {
         return 0;
     }
@@ -82,7 +102,7 @@ pub fn marks_verdict(t: &[u8], n: usize) -> Verdict
     ensures { λ r. ⌜ r ≡ marksVerdict (now (t .entry)) (2 * n) (inMarkAt 0) nothingRefused ⌝ }
 {
     let mut left = 2 * n;
-    let mut at = Answer::HEADER;
+    let mut at = in_mark_at(0);
     while 0 < left {
         let fault = mark_fault(t, at);
         if fault != 0 {
@@ -91,7 +111,7 @@ pub fn marks_verdict(t: &[u8], n: usize) -> Verdict
                 place: at,
             };
         }
-        at += Answer::MARK;
+        at = mark_end(at);
         left -= 1;
     }
     Verdict {
@@ -165,15 +185,13 @@ fn mark_reads(s: &[u8], t: &[u8], b: usize, lb: usize, met: &mut [bool; Graph::M
     requires { ⌜ Reads (now s) × (b + lb ≤ length (now t)) × (length (now met) ≡ maxReads) × Rising (part (now t) b lb) ⌝ }
     ensures { λ r. ⌜ Marked (now (s .entry)) (part (now (t .entry)) b lb) (now (met .entry)) (now (met .exit)) ⌝ }
 {
-    let count = wide(s[Graph::AT_READS]);
-    let mut at = Graph::HEADER
-        + Graph::VERTEX * wide(s[Graph::AT_VERTICES])
-        + Graph::ARC * be16(s, Graph::AT_ARCS);
+    let count = read_count(s);
+    let mut at = first_read_at(s);
     let mut r = 0;
     while r < count {
-        let la = wide(s[at]);
-        met[r] = met_now(met[r], s, at + 1, la, t, b, lb);
-        at = at + 1 + la;
+        let la = read_length(s, at);
+        met[r] = met_now(met[r], s, read_vertices_at(s, at), la, t, b, lb);
+        at = read_end(s, at);
         r += 1;
     }
 }
@@ -184,35 +202,18 @@ struct Walk {
     cost: usize,
 }
 
-// The flag byte of vertex v.
-fn flag_of(s: &[u8], v: usize) -> usize
-    requires { ⌜ Reads (now s) × (v < vertexCount (now s)) ⌝ }
-    ensures { λ r. ⌜ r ≡ flags (now (s .entry)) v ⌝ }
-{
-    wide(s[Graph::HEADER + Graph::VERTEX * v])
-}
-
 fn is_start(s: &[u8], v: usize) -> bool
     requires { ⌜ Reads (now s) × (v < vertexCount (now s)) ⌝ }
     ensures { λ r. ⌜ r ≡ isStart (graphOf (now (s .entry))) v ⌝ }
 {
-    flag_of(s, v) % 2 == 1
+    vertex_flags(s, v) % 2 == 1
 }
 
 fn is_end(s: &[u8], v: usize) -> bool
     requires { ⌜ Reads (now s) × (v < vertexCount (now s)) ⌝ }
     ensures { λ r. ⌜ r ≡ isEnd (graphOf (now (s .entry))) v ⌝ }
 {
-    flag_of(s, v) / 2 == 1
-}
-
-// The cost of arc k.
-fn cost_of(s: &[u8], n: usize, k: usize) -> usize
-    requires { ⌜ Reads (now s) × (n ≡ vertexCount (now s)) × (k < arcCount (now s)) ⌝ }
-    ensures { λ r. ⌜ r ≡ arcCost (now (s .entry)) (arcAt (now (s .entry)) k) ⌝ }
-    ensures low { λ r. ⌜ r ≤ maxCost ⌝ }
-{
-    be32(s, Graph::HEADER + Graph::VERTEX * n + Graph::ARC * k + 2)
+    vertex_flags(s, v) / 2 == 1
 }
 
 // Walks on from vertex u, which is counted already, along lb vertices at b: one look for an arc with each.
@@ -231,7 +232,7 @@ fn walk_on(
     requires { ⌜ (lb ≤ 63) × (b + lb ≤ length (now t)) × Room (now s) (now «vertex_totals») (now «arc_totals») weight 129 ⌝ }
     ensures { λ r. ⌜ Walked (now (s .entry)) (goesOnTo (now (s .entry)) from (part (now (t .entry)) b lb)) (onward from (part (now (t .entry)) b lb)) (from ∷ part (now (t .entry)) b lb) weight (now («vertex_totals» .entry)) (now («vertex_totals» .exit)) (now («arc_totals» .entry)) (now («arc_totals» .exit)) (r .ok) (r .cost) ⌝ }
 {
-    let n = wide(s[Graph::AT_VERTICES]);
+    let n = vertex_count(s);
     let mut u = from;
     let mut cost = 0;
     let mut j = 0;
@@ -246,7 +247,7 @@ fn walk_on(
         };
         arc_totals[k] = arc_totals[k] + weight;
         vertex_totals[v] = vertex_totals[v] + weight;
-        cost += cost_of(s, n, k);
+        cost += arc_cost(s, n, k);
         u = v;
         j += 1;
     }
@@ -270,7 +271,7 @@ fn walk_path(
     ensures { λ r. ⌜ PathWalked (now (s .entry)) (part (now (t .entry)) b lb) weight (now («vertex_totals» .entry)) (now («vertex_totals» .exit)) (now («arc_totals» .entry)) (now («arc_totals» .exit)) (r .ok) (r .cost) ⌝ }
 {
     let u = wide(t[b]);
-    if wide(s[Graph::AT_VERTICES]) <= u {
+    if vertex_count(s) <= u {
         return Walk { ok: false, cost: 0 };
     }
     if !is_start(s, u) {
@@ -296,20 +297,20 @@ fn path_head_fault(t: &[u8], at: usize, copies: usize) -> usize
     ensures { λ r. ⌜ r ≡ pathHeadFault (now (t .entry)) at copies ⌝ }
     ensures right { λ r. ⌜ (r ≡ 0 → PathHead (now (t .entry)) at copies) ⌝ }
 {
-    if t.len() - at < Answer::PATH {
+    if t.len() < path_vertices_at(at) {
         return 15;
     }
-    let len = wide(t[at + Answer::WEIGHT]);
+    let len = path_length(t, at);
     if len == 0 {
         return 16;
     }
     if Answer::MAX_PATH < len {
         return 16;
     }
-    if t.len() < at + Answer::PATH + len {
+    if t.len() < path_end(t, at) {
         return 15;
     }
-    let weight = be32(t, at);
+    let weight = path_weight(t, at);
     if weight == 0 {
         return 17;
     }
@@ -347,9 +348,9 @@ fn read_path(
     if fault != 0 {
         return PathRecord { fault, cost: 0 };
     }
-    let weight = be32(t, at);
-    let lb = wide(t[at + Answer::WEIGHT]);
-    let b = at + Answer::PATH;
+    let weight = path_weight(t, at);
+    let lb = path_length(t, at);
+    let b = path_vertices_at(at);
     let walk = walk_path(s, first, t, b, lb, weight, vertex_totals, arc_totals);
     if !walk.ok {
         return PathRecord { fault: 16, cost: 0 };
@@ -396,9 +397,9 @@ pub fn read_paths(
     requires { ⌜ NothingTallied (now «vertex_totals») (now «arc_totals») (now met) ⌝ }
     ensures { λ r. ⌜ PathsRead (now (s .entry)) (now (t .entry)) (now («vertex_totals» .exit)) (now («arc_totals» .exit)) (now (met .exit)) (r .number) (r .place) (r .price) ⌝ }
 {
-    let opening = be32(s, Graph::AT_OPENING);
-    let mut left = be16(t, Answer::AT_PATHS);
-    let mut at = Answer::HEADER + Answer::MARKS * wide(s[Graph::AT_VERTICES]);
+    let opening = opening_price(s);
+    let mut left = path_count(t);
+    let mut at = first_path_at(vertex_count(s));
     let mut p = 0;
     let mut lp = 0;
     let mut copies = 0;
@@ -420,9 +421,9 @@ pub fn read_paths(
         if fault != 0 {
             return Tally::new(fault, at, 0);
         }
-        let weight = be32(t, at);
-        lp = wide(t[at + Answer::WEIGHT]);
-        p = at + Answer::PATH;
+        let weight = path_weight(t, at);
+        lp = path_length(t, at);
+        p = path_vertices_at(at);
         price += weight * (opening + path.cost);
         copies += weight;
         at = p + lp;

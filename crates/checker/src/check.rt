@@ -6,13 +6,15 @@ use crate::reader::read_graph;
 use certify::bound_of;
 use certify::slacks_verdict;
 use certify::unmet_verdict;
-use forms::Answer;
 use forms::Graph;
 use forms::Verdict;
 use forms::arcs::first_arcs;
-use forms::bytes::be16;
-use forms::bytes::be32;
-use forms::bytes::wide;
+use forms::fields::first_path_at;
+use forms::fields::path_count;
+use forms::fields::path_end;
+use forms::fields::path_vertices_at;
+use forms::fields::stated_price;
+use forms::fields::vertex_count;
 ghost use mathlib.Core.Path.{_≡_};
 ghost use mathlib.Core.List.{[]};
 ghost use Prim.Native.Nat.{_+_, _≤_};
@@ -28,14 +30,6 @@ ghost use Rattle.forms.specs.AnswerFaults.{pathsVerdict};
 ghost use Rattle.checker.specs.Tallies.{Tallied, PathsStand};
 ghost use Rattle.certify.specs.Certify.{MarksStand};
 ghost use Rattle.checker.specs.Check.{certificateVerdict, answerVerdict, checkVerdict, handOutVerdict, pathAt, handedOut};
-
-// The price that an answer states.
-pub fn stated_price(t: &[u8]) -> usize
-    requires { ⌜ 15 ≤ length (now t) ⌝ }
-    ensures { λ r. ⌜ r ≡ statedPrice (now (t .entry)) ⌝ }
-{
-    be32(t, Answer::AT_PRICE) * 4_294_967_296 + be32(t, Answer::AT_PRICE + 4)
-}
 
 // Numbers 19 to 22, in that order, of paths that are tallied.
 fn certificate_verdict(
@@ -94,7 +88,7 @@ fn answer_verdict(s: &[u8], t: &[u8]) -> Verdict
     if header.number != 0 {
         return header;
     }
-    let marks = marks_verdict(t, wide(s[Graph::AT_VERTICES]));
+    let marks = marks_verdict(t, vertex_count(s));
     if marks.number != 0 {
         return marks;
     }
@@ -120,7 +114,7 @@ pub fn hand_out_verdict(graph: &[u8], answer: &[u8], k: usize) -> Verdict
     if checked.number != 0 {
         return checked;
     }
-    if be16(answer, Answer::AT_PATHS) <= k {
+    if path_count(answer) <= k {
         return Verdict::new(23, 0);
     }
     Verdict::new(0, 0)
@@ -134,7 +128,7 @@ fn path_at(t: &[u8], from: usize, k: usize) -> usize
     let mut at = from;
     let mut left = k;
     while 0 < left {
-        at = at + Answer::PATH + wide(t[at + Answer::WEIGHT]);
+        at = path_end(t, at);
         left -= 1;
     }
     at
@@ -148,12 +142,8 @@ pub fn hand_out<'a>(graph: &[u8], answer: &'a [u8], k: usize) -> &'a [u8]
     if verdict.number != 0 {
         return &answer[0..0];
     }
-    let at = path_at(
-        answer,
-        Answer::HEADER + Answer::MARKS * wide(graph[Graph::AT_VERTICES]),
-        k,
-    );
-    let start = at + Answer::PATH;
-    let end = start + wide(answer[at + Answer::WEIGHT]);
+    let at = path_at(answer, first_path_at(vertex_count(graph)), k);
+    let start = path_vertices_at(at);
+    let end = path_end(answer, at);
     &answer[start..end]
 }

@@ -4,9 +4,32 @@ use forms::Graph;
 use forms::Verdict;
 use forms::arcs::find_arc;
 use forms::arcs::first_arcs;
-use forms::bytes::be16;
-use forms::bytes::be32;
 use forms::bytes::wide;
+use forms::fields::arc_at;
+use forms::fields::arc_cost;
+use forms::fields::arc_count;
+use forms::fields::arc_count_at;
+use forms::fields::arc_demand;
+use forms::fields::arc_ends;
+use forms::fields::arc_head;
+use forms::fields::arc_tail;
+use forms::fields::first_read_at;
+use forms::fields::header_length;
+use forms::fields::length_word;
+use forms::fields::opening_price;
+use forms::fields::opening_price_at;
+use forms::fields::read_count;
+use forms::fields::read_count_at;
+use forms::fields::read_end;
+use forms::fields::read_length;
+use forms::fields::read_vertices_at;
+use forms::fields::version;
+use forms::fields::version_at;
+use forms::fields::vertex_at;
+use forms::fields::vertex_count;
+use forms::fields::vertex_count_at;
+use forms::fields::vertex_demand;
+use forms::fields::vertex_flags;
 ghost use mathlib.Core.Path.{_≡_};
 ghost use Prim.Native.Nat.{_+_, _<_, _≤_};
 ghost use lib.ListN.{length};
@@ -16,36 +39,36 @@ ghost use Rattle.forms.specs.GraphOf.{arcsOf};
 ghost use Rattle.forms.specs.GraphReads.{HeaderRight};
 ghost use Rattle.forms.specs.ArcTable.{ArcTable, goesOn};
 ghost use Rattle.forms.specs.Bytes.{part};
-ghost use Rattle.forms.specs.Limits.{maxVertices, maxArcs, longestGraph};
+ghost use Rattle.forms.specs.Limits.{maxVertices, maxArcs};
 
 // What is wrong with the header: 1, 2, 3 or 4.
 fn header_verdict(s: &[u8]) -> Verdict
     ensures { λ r. ⌜ r ≡ headerVerdict (now (s .entry)) ⌝ }
 {
-    if s.len() < Graph::HEADER {
+    if s.len() < header_length() {
         return Verdict::new(1, 0);
     }
-    if be32(s, 0) != s.len() {
+    if length_word(s) != s.len() {
         return Verdict::new(1, 0);
     }
-    if wide(s[Graph::AT_VERSION]) != 1 {
-        return Verdict::new(2, Graph::AT_VERSION);
+    if version(s) != 1 {
+        return Verdict::new(2, version_at());
     }
-    let n = wide(s[Graph::AT_VERTICES]);
+    let n = vertex_count(s);
     if n == 0 {
-        return Verdict::new(3, Graph::AT_VERTICES);
+        return Verdict::new(3, vertex_count_at());
     }
     if Graph::MAX_VERTICES < n {
-        return Verdict::new(3, Graph::AT_VERTICES);
+        return Verdict::new(3, vertex_count_at());
     }
-    if Graph::MAX_ARCS < be16(s, Graph::AT_ARCS) {
-        return Verdict::new(3, Graph::AT_ARCS);
+    if Graph::MAX_ARCS < arc_count(s) {
+        return Verdict::new(3, arc_count_at());
     }
-    if Graph::MAX_READS < wide(s[Graph::AT_READS]) {
-        return Verdict::new(3, Graph::AT_READS);
+    if Graph::MAX_READS < read_count(s) {
+        return Verdict::new(3, read_count_at());
     }
-    if Graph::MAX_OPENING < be32(s, Graph::AT_OPENING) {
-        return Verdict::new(4, Graph::AT_OPENING);
+    if Graph::MAX_OPENING < opening_price(s) {
+        return Verdict::new(4, opening_price_at());
     }
     Verdict::new(0, 0)
 }
@@ -55,14 +78,13 @@ fn vertex_fault(s: &[u8], v: usize) -> usize
     requires { ⌜ v < maxVertices ⌝ }
     ensures { λ r. ⌜ r ≡ vertexFault (now (s .entry)) v ⌝ }
 {
-    let at = Graph::HEADER + Graph::VERTEX * v;
-    if s.len() < at + Graph::VERTEX {
+    if s.len() < vertex_at(s, v + 1) {
         return 5;
     }
-    if wide(s[at]) > 3 {
+    if vertex_flags(s, v) > 3 {
         return 4;
     }
-    if be32(s, at + 1) > Graph::MAX_DEMAND {
+    if vertex_demand(s, v) > Graph::MAX_DEMAND {
         return 4;
     }
     0
@@ -77,38 +99,38 @@ fn vertices_verdict(s: &[u8], count: usize) -> Verdict
     while v < count {
         let fault = vertex_fault(s, v);
         if fault != 0 {
-            return Verdict::new(fault, Graph::HEADER + Graph::VERTEX * v);
+            return Verdict::new(fault, vertex_at(s, v));
         }
         v += 1;
     }
     Verdict::new(0, 0)
 }
 
-// What is wrong with the arc record at an offset, in a form with n vertices: 5, 4, 6 or nothing. Tail and head as one number order the arcs.
-fn arc_fault(s: &[u8], n: usize, at: usize) -> usize
-    requires { ⌜ (n ≡ vertexCount (now s)) × (n ≤ maxVertices) × (arcAt (now s) 0 ≤ at) × (at ≤ longestGraph) ⌝ }
-    ensures { λ r. ⌜ r ≡ arcFault (now (s .entry)) at ⌝ }
+// What is wrong with the record of arc a, in a form with n vertices: 5, 4, 6 or nothing.
+fn arc_fault(s: &[u8], n: usize, a: usize) -> usize
+    requires { ⌜ (n ≡ vertexCount (now s)) × (n ≤ maxVertices) × (a < maxArcs) ⌝ }
+    ensures { λ r. ⌜ r ≡ arcFault (now (s .entry)) (arcAt (now (s .entry)) a) ⌝ }
 {
-    if s.len() < at + Graph::ARC {
+    if s.len() < arc_at(s, n, a + 1) {
         return 5;
     }
-    if Graph::MAX_COST < be32(s, at + 2) {
+    if Graph::MAX_COST < arc_cost(s, n, a) {
         return 4;
     }
-    if Graph::MAX_DEMAND < be32(s, at + 6) {
+    if Graph::MAX_DEMAND < arc_demand(s, n, a) {
         return 4;
     }
-    let head = wide(s[at + 1]);
-    if head <= wide(s[at]) {
+    let head = arc_head(s, n, a);
+    if head <= arc_tail(s, n, a) {
         return 6;
     }
     if n <= head {
         return 6;
     }
-    if at == Graph::HEADER + Graph::VERTEX * n {
+    if a == 0 {
         return 0;
     }
-    if be16(s, at) <= be16(s, at - Graph::ARC) {
+    if arc_ends(s, n, a) <= arc_ends(s, n, a - 1) {
         return 6;
     }
     0
@@ -119,12 +141,11 @@ fn arcs_verdict(s: &[u8], n: usize, count: usize) -> Verdict
     requires { ⌜ (n ≡ vertexCount (now s)) × (n ≤ maxVertices) × (count ≤ maxArcs) ⌝ }
     ensures { λ r. ⌜ r ≡ firstFault (λ a. arcFault (now (s .entry)) (arcAt (now (s .entry)) a)) (arcAt (now (s .entry))) count 0 ⌝ }
 {
-    let base = Graph::HEADER + Graph::VERTEX * n;
     let mut a = 0;
     while a < count {
-        let fault = arc_fault(s, n, base + Graph::ARC * a);
+        let fault = arc_fault(s, n, a);
         if fault != 0 {
-            return Verdict::new(fault, base + Graph::ARC * a);
+            return Verdict::new(fault, arc_at(s, n, a));
         }
         a += 1;
     }
@@ -156,7 +177,7 @@ fn is_walk(
     requires { ⌜ ArcTable (now s) (now first) × (1 ≤ count) × (at + count ≤ length (now form)) ⌝ }
     ensures { λ r. ⌜ r ≡ walks (vertexCount (now (s .entry))) (arcsOf (now (s .entry))) (part (now (form .entry)) at count) ⌝ }
 {
-    let n = wide(s[Graph::AT_VERTICES]);
+    let n = vertex_count(s);
     let end = at + count;
     let mut u = wide(form[at]);
     if n <= u {
@@ -182,17 +203,17 @@ fn read_fault(s: &[u8], first: &[u16; Graph::MAX_VERTICES + 1], at: usize) -> us
     if s.len() <= at {
         return 5;
     }
-    let count = wide(s[at]);
+    let count = read_length(s, at);
     if count < Graph::MIN_READ {
         return 7;
     }
     if Graph::MAX_READ < count {
         return 7;
     }
-    if s.len() < at + 1 + count {
+    if s.len() < read_end(s, at) {
         return 5;
     }
-    if !is_walk(s, first, s, at + 1, count) {
+    if !is_walk(s, first, s, read_vertices_at(s, at), count) {
         return 7;
     }
     0
@@ -215,7 +236,7 @@ fn reads_verdict(
         if fault != 0 {
             return Verdict::new(fault, at);
         }
-        at = at + 1 + wide(s[at]);
+        at = read_end(s, at);
         k += 1;
     }
     if at < s.len() {
@@ -229,18 +250,12 @@ fn arcs_then_reads(s: &[u8], n: usize) -> Verdict
     requires { ⌜ HeaderRight (now s) × (n ≡ vertexCount (now s)) ⌝ }
     ensures { λ r. ⌜ r ≡ then (arcsVerdict (now (s .entry))) (readsVerdict (now (s .entry)) (readCount (now (s .entry))) (firstReadAt (now (s .entry)))) ⌝ }
 {
-    let m = be16(s, Graph::AT_ARCS);
-    let arcs = arcs_verdict(s, n, m);
+    let arcs = arcs_verdict(s, n, arc_count(s));
     if arcs.number != 0 {
         return arcs;
     }
     let first = first_arcs(s);
-    reads_verdict(
-        s,
-        &first,
-        wide(s[Graph::AT_READS]),
-        Graph::HEADER + Graph::VERTEX * n + Graph::ARC * m,
-    )
+    reads_verdict(s, &first, read_count(s), first_read_at(s))
 }
 
 // Document 01, "Numbers returned when an input is turned down", 1 to 7: what reading the graph form gives.
@@ -251,7 +266,7 @@ pub fn read_graph(s: &[u8]) -> Verdict
     if header.number != 0 {
         return header;
     }
-    let n = wide(s[Graph::AT_VERTICES]);
+    let n = vertex_count(s);
     let vertices = vertices_verdict(s, n);
     if vertices.number != 0 {
         return vertices;

@@ -17,7 +17,7 @@ use Rattle.mathematics.specs.Graph.{joins}
 use Rattle.mathematics.specs.Cover.{oneIf}
 use Rattle.forms.specs.declared.Found.{Found}
 use Rattle.forms.specs.declared.Found.the-variants.{At, Missing}
-use Rattle.forms.specs.Bytes.{byte, tabulate}
+use Rattle.forms.specs.Bytes.{tabulate}
 use Rattle.forms.specs.Limits.{maxVertices}
 use Rattle.forms.specs.GraphForm.{arcCount, arcAt, arcTail, arcHead, arcLength}
 use Rattle.forms.specs.GraphOf.{arcOf, arcsOf}
@@ -95,10 +95,7 @@ module _ (s : List ℕ) (n count u a : ℕ) (c : AsCounted s n count) (passed : 
   pub below-inside : a < count → arcAt s a + arcLength ≤ length s
   below-inside h = c .right .each a (omega (arith, c .arcs)) .whole
 
-  module _ {tail i : ℕ} (read : tail ≡ byte s i) (at : i ≡ arcAt s a) where
-    its-tail : tail ≡ tailOf s a
-    its-tail = read ∙ ap (byte s) at
-
+  module _ {tail : ℕ} (its-tail : tail ≡ tailOf s a) where
     pub below-turns : a < count → tail < u → a + 1 ≤ tailsBelow (arcsOf s) u
     below-turns h l =
         elim (decLe (a + 1) (tailsBelow (arcsOf s) u))
@@ -201,10 +198,7 @@ module _ (s : List ℕ) (u v : ℕ) where
           whole-cut s (t .arcs) (u + 1) .low a (omega arith) (omega (arith, end-at)),
         )
 
-    module _ (a : ℕ) (l : getD first u 0 ≤ a) (h : a < getD first (u + 1) 0) {head i : ℕ} (read : head ≡ byte s i) (at : i ≡ arcAt s a + 1) where
-      its-head : head ≡ headOf s a
-      its-head = read ∙ ap (byte s) at
-
+    module _ (a : ℕ) (l : getD first u 0 ≤ a) (h : a < getD first (u + 1) 0) {head : ℕ} (its-head : head ≡ headOf s a) where
       pub find-turns : (head ≡ v → ⊥) → (a + 1 ≤ arcCount s) × (foundFrom a ≡ foundFrom (a + 1))
       find-turns other = (
         omega (arith, within a h),

@@ -1,8 +1,10 @@
 // Finding an arc by its ends: the table of first arcs, and the look at the arcs of one tail.
 use crate::Found;
 use crate::Graph;
-use crate::bytes::be16;
-use crate::bytes::wide;
+use crate::fields::arc_count;
+use crate::fields::arc_head;
+use crate::fields::arc_tail;
+use crate::fields::vertex_count;
 ghost use mathlib.Core.Path.{_≡_};
 ghost use Prim.Native.Nat.{_<_, _≤_};
 ghost use Rattle.forms.specs.GraphOf.{arcsOf};
@@ -22,10 +24,9 @@ fn arcs_below(s: &[u8], n: usize, count: usize, u: usize, from: usize) -> usize
     requires { ⌜ AsCounted (now s) n count × (from ≤ tailsBelow (arcsOf (now s)) u) ⌝ }
     ensures { λ r. ⌜ r ≡ tailsBelow (arcsOf (now (s .entry))) u ⌝ }
 {
-    let base = Graph::HEADER + Graph::VERTEX * n;
     let mut a = from;
     while a < count {
-        if u <= wide(s[base + Graph::ARC * a]) {
+        if u <= arc_tail(s, n, a) {
             return a;
         }
         a += 1;
@@ -38,8 +39,8 @@ pub fn first_arcs(s: &[u8]) -> [u16; Graph::MAX_VERTICES + 1]
     requires { ⌜ ArcsRight (now s) ⌝ }
     ensures { λ r. ⌜ ArcTable (now (s .entry)) r ⌝ }
 {
-    let n = wide(s[Graph::AT_VERTICES]);
-    let count = be16(s, Graph::AT_ARCS);
+    let n = vertex_count(s);
+    let count = arc_count(s);
     let mut first = [0u16; Graph::MAX_VERTICES + 1];
     let mut below = 0;
     let mut u = 0;
@@ -56,11 +57,11 @@ pub fn find_arc(s: &[u8], first: &[u16; Graph::MAX_VERTICES + 1], u: usize, v: u
     requires { ⌜ ArcTable (now s) (now first) × (u < maxVertices) ⌝ }
     ensures { λ r. ⌜ r ≡ arcNumber (arcsOf (now (s .entry))) u v ⌝ }
 {
-    let base = Graph::HEADER + Graph::VERTEX * wide(s[Graph::AT_VERTICES]);
+    let n = vertex_count(s);
     let end = wide16(first[u + 1]);
     let mut a = wide16(first[u]);
     while a < end {
-        if wide(s[base + Graph::ARC * a + 1]) == v {
+        if arc_head(s, n, a) == v {
             return Found::At(a);
         }
         a += 1;

@@ -1,7 +1,8 @@
-// The two forms of document 01: their types with the limits, numbers in bytes, finding an arc, marks. What reads or checks a form stands above.
+// The two forms of document 01: their types with the limits, numbers in bytes, one function for each field and place, finding an arc, marks. What reads or checks a form stands above.
 // The definitions that the contracts cite are in specs/, in document 01's words and order.
 pub mod arcs;
 pub mod bytes;
+pub mod fields;
 pub mod marks;
 
 ghost use mathlib.Core.Path.{_≡_};

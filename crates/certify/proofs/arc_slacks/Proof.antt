@@ -15,14 +15,11 @@ Inv-loop s t n count a₀ a = (n ≡ vertexCount s) × (count ≡ arcCount s) ×
 abbrev μ-loop : tie.MeasureT-loop
 μ-loop s t n count a₀ a = count - a
 
-shared-slice-read-wide : tie.Need-shared-slice-read-wide Inv-loop μ-loop
-shared-slice-read-wide c = search needs
+vertex-count-requires : tie.Need-vertex-count-requires Inv-loop μ-loop
+vertex-count-requires c κs = search needs
 
-wide-requires : tie.Need-wide-requires Inv-loop μ-loop
-wide-requires c κs = search needs
-
-be16-requires : tie.Need-be16-requires Inv-loop μ-loop
-be16-requires c κs = search needs
+arc-count-requires : tie.Need-arc-count-requires Inv-loop μ-loop
+arc-count-requires c κs = search needs
 
 loop-holds : tie.Need-loop-holds Inv-loop μ-loop
 loop-holds c = (search needs, search needs, search needs, scan-begins _ _ _)
@@ -60,9 +57,8 @@ arc-slacks-spec =
     (tie.spec
     Inv-loop
     μ-loop
-    shared-slice-read-wide
-    wide-requires
-    be16-requires
+    vertex-count-requires
+    arc-count-requires
     loop-holds
     arc-slack-fault-requires
     add-new

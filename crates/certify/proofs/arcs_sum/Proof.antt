@@ -17,14 +17,11 @@ Inv-loop s t reads n count sum₀ a₀ sum a = (n ≡ vertexCount s) × (count �
 abbrev μ-loop : tie.MeasureT-loop
 μ-loop s t reads n count sum₀ a₀ sum a = count - a
 
-shared-slice-read-wide : tie.Need-shared-slice-read-wide Inv-loop μ-loop
-shared-slice-read-wide c = search needs
+vertex-count-requires : tie.Need-vertex-count-requires Inv-loop μ-loop
+vertex-count-requires c κs = search needs
 
-wide-requires : tie.Need-wide-requires Inv-loop μ-loop
-wide-requires c κs = search needs
-
-be16-requires : tie.Need-be16-requires Inv-loop μ-loop
-be16-requires c κs = search needs
+arc-count-requires : tie.Need-arc-count-requires Inv-loop μ-loop
+arc-count-requires c κs = search needs
 
 loop-holds : tie.Need-loop-holds Inv-loop μ-loop
 loop-holds c = (search needs, search needs, sum-begin _ _)
@@ -37,8 +34,8 @@ element-copy-out-arc-part c = search needs
 
 arc-part-requires : tie.Need-arc-part-requires Inv-loop μ-loop
 arc-part-requires c κs =
-    let p = c .before .before .before .before .before .before .before .before .pre in
-    let inside : c .before .before .loop .a < arcCount (c .before .before .before .before .before .before .before .before .args .s .now) = omega (arith, c .before .before .loop .inv .1, c .before .loop-test .taken) in
+    let p = c .before .before .before .before .before .before .before .pre in
+    let inside : c .before .before .loop .a < arcCount (c .before .before .before .before .before .before .before .args .s .now) = omega (arith, c .before .before .loop .inv .1, c .before .loop-test .taken) in
     ((p .0 .0, p .0 .1, c .before .before .loop .inv .0, inside), (p .0 .2, p .1 _ inside))
 
 add-sum : tie.Need-add-sum Inv-loop μ-loop
@@ -54,7 +51,7 @@ loop-again : tie.Need-loop-again Inv-loop μ-loop
 loop-again c = (search needs, search needs, sum-turn _ _ _ _ _ (search needs) (search needs) (c .arc-part .ensures))
 
 returns : tie.Need-returns Inv-loop μ-loop
-returns c = sum-end _ _ (c .before .loop .a) _ _ (c .before .loop .inv .2) (omega (arith, c .before .loop .inv .1, c .loop-test .left)) (c .before .before .before .before .before .before .before .pre .0 .0 .arcs .header .few-arcs)
+returns c = sum-end _ _ (c .before .loop .a) _ _ (c .before .loop .inv .2) (omega (arith, c .before .loop .inv .1, c .loop-test .left)) (c .before .before .before .before .before .before .pre .0 .0 .arcs .header .few-arcs)
 
 pub arcs-sum-spec : {M : Type 1} → statement M
 arcs-sum-spec =
@@ -62,9 +59,8 @@ arcs-sum-spec =
     (tie.spec
     Inv-loop
     μ-loop
-    shared-slice-read-wide
-    wide-requires
-    be16-requires
+    vertex-count-requires
+    arc-count-requires
     loop-holds
     mul-arc-part
     element-copy-out-arc-part

@@ -1,5 +1,5 @@
 -- `certify::arcs_unmet` gives the first arc with a demand unmet: the answer of all is that of those not yet passed.
-use Prim.Native.Nat.{_-_, _+_, _*_, _≤_}
+use Prim.Native.Nat.{_-_, _≤_}
 use mathlib.Core.Path.{_≡_, _∙_, refl}
 use native.Mathlib.Omega.{arith}
 use Rattle.forms.specs.GraphForm.{vertexCount, arcCount}
@@ -12,28 +12,19 @@ use Rattle.certify.proofs.arcs_unmet.Statement.{statement}
 use Rattle.certify.proofs.arcs_unmet.Tie as tie
 
 abbrev Inv-loop : tie.InvT-loop
-Inv-loop s totals n count base a₀ a = (n ≡ vertexCount s) × (base ≡ 13 + 5 * vertexCount s) × (count ≡ arcCount s) × (a ≤ count) × (firstFault (arcUnmet s totals) (arcPlace s) (arcCount s) 0 ≡ firstFault (arcUnmet s totals) (arcPlace s) (arcCount s - a) a)
+Inv-loop s totals n count a₀ a = (n ≡ vertexCount s) × (count ≡ arcCount s) × (a ≤ count) × (firstFault (arcUnmet s totals) (arcPlace s) (arcCount s) 0 ≡ firstFault (arcUnmet s totals) (arcPlace s) (arcCount s - a) a)
 
 abbrev μ-loop : tie.MeasureT-loop
-μ-loop s totals n count base a₀ a = count - a
+μ-loop s totals n count a₀ a = count - a
 
-shared-slice-read-wide : tie.Need-shared-slice-read-wide Inv-loop μ-loop
-shared-slice-read-wide c = search needs
+vertex-count-requires : tie.Need-vertex-count-requires Inv-loop μ-loop
+vertex-count-requires c κs = search needs
 
-wide-requires : tie.Need-wide-requires Inv-loop μ-loop
-wide-requires c κs = search needs
-
-be16-requires : tie.Need-be16-requires Inv-loop μ-loop
-be16-requires c κs = search needs
-
-mul-base : tie.Need-mul-base Inv-loop μ-loop
-mul-base c = search needs
-
-add-base : tie.Need-add-base Inv-loop μ-loop
-add-base c = search needs
+arc-count-requires : tie.Need-arc-count-requires Inv-loop μ-loop
+arc-count-requires c κs = search needs
 
 loop-holds : tie.Need-loop-holds Inv-loop μ-loop
-loop-holds c = (search needs, search needs, search needs, search needs, scan-begins _ _ _)
+loop-holds c = (search needs, search needs, search needs, scan-begins _ _ _)
 
 mul-if1 : tie.Need-mul-if1 Inv-loop μ-loop
 mul-if1 c = search needs
@@ -41,17 +32,8 @@ mul-if1 c = search needs
 element-copy-out-if1 : tie.Need-element-copy-out-if1 Inv-loop μ-loop
 element-copy-out-if1 c = search needs
 
-mul-be32 : tie.Need-mul-be32 Inv-loop μ-loop
-mul-be32 c = search needs
-
-add-be32 : tie.Need-add-be32 Inv-loop μ-loop
-add-be32 c = search needs
-
-add-be32-2 : tie.Need-add-be32-2 Inv-loop μ-loop
-add-be32-2 c = search needs
-
-be32-requires : tie.Need-be32-requires Inv-loop μ-loop
-be32-requires c κs = omega (arith, c .before .before .before .before .before .before .before .pre .arcs .each (c .before .before .loop .a) (search needs) .whole)
+arc-demand-requires : tie.Need-arc-demand-requires Inv-loop μ-loop
+arc-demand-requires c κs = (search needs, c .before .before .before .before .before .before .pre .arcs .each (c .before .before .loop .a) (search needs) .whole)
 
 add-new : tie.Need-add-new Inv-loop μ-loop
 add-new c = search needs
@@ -60,7 +42,7 @@ new-requires : tie.Need-new-requires Inv-loop μ-loop
 new-requires c κs = search needs
 
 returns : tie.Need-returns Inv-loop μ-loop
-returns c = c .new .ensures ∙ scan-stops _ _ _ (c .before .before .before .before .before .loop .a) 19 _ (search needs) (search needs) (arc-unmet _ _ _ _ _ (c .before .before .be32 .ensures .0) (search needs) (search needs)) (λ e. omega arith) (search needs)
+returns c = c .new .ensures ∙ scan-stops _ _ _ (c .before .before .before .before .before .loop .a) 19 _ (search needs) (search needs) (arc-unmet _ _ _ (search needs)) (λ e. omega arith) (search needs)
 
 add-a : tie.Need-add-a Inv-loop μ-loop
 add-a c = search needs
@@ -69,7 +51,7 @@ loop-less : tie.Need-loop-less Inv-loop μ-loop
 loop-less c = search needs
 
 loop-again : tie.Need-loop-again Inv-loop μ-loop
-loop-again c = (search needs, search needs, search needs, search needs, scan-turns _ _ _ _ 0 (search needs) (search needs) (arc-met _ _ _ _ _ (c .before .be32 .ensures .0) (search needs) (search needs)) refl)
+loop-again c = (search needs, search needs, search needs, scan-turns _ _ _ _ 0 (search needs) (search needs) (arc-met _ _ _ (search needs)) refl)
 
 new-requires-2 : tie.Need-new-requires-2 Inv-loop μ-loop
 new-requires-2 c κs = search needs
@@ -83,18 +65,12 @@ arcs-unmet-spec =
     (tie.spec
     Inv-loop
     μ-loop
-    shared-slice-read-wide
-    wide-requires
-    be16-requires
-    mul-base
-    add-base
+    vertex-count-requires
+    arc-count-requires
     loop-holds
     mul-if1
     element-copy-out-if1
-    mul-be32
-    add-be32
-    add-be32-2
-    be32-requires
+    arc-demand-requires
     add-new
     new-requires
     returns

@@ -18,11 +18,8 @@ Inv-loop s met count r₀ r = (count ≡ readCount s) × (r ≤ count) × (first
 abbrev μ-loop : tie.MeasureT-loop
 μ-loop s met count r₀ r = count - r
 
-shared-slice-read-wide : tie.Need-shared-slice-read-wide Inv-loop μ-loop
-shared-slice-read-wide c = search needs
-
-wide-requires : tie.Need-wide-requires Inv-loop μ-loop
-wide-requires c κs = search needs
+read-count-requires : tie.Need-read-count-requires Inv-loop μ-loop
+read-count-requires c κs = search needs
 
 loop-holds : tie.Need-loop-holds Inv-loop μ-loop
 loop-holds c = (search needs, search needs, scan-begins _ _ _)
@@ -30,14 +27,11 @@ loop-holds c = (search needs, search needs, scan-begins _ _ _)
 element-copy-out-if1 : tie.Need-element-copy-out-if1 Inv-loop μ-loop
 element-copy-out-if1 c = search needs
 
-shared-slice-read-wide-2 : tie.Need-shared-slice-read-wide-2 Inv-loop μ-loop
-shared-slice-read-wide-2 c = search needs
+vertex-count-requires : tie.Need-vertex-count-requires Inv-loop μ-loop
+vertex-count-requires c κs = search needs
 
-wide-requires-2 : tie.Need-wide-requires-2 Inv-loop μ-loop
-wide-requires-2 c κs = search needs
-
-be16-requires : tie.Need-be16-requires Inv-loop μ-loop
-be16-requires c κs = search needs
+arc-count-requires : tie.Need-arc-count-requires Inv-loop μ-loop
+arc-count-requires c κs = search needs
 
 add-new : tie.Need-add-new Inv-loop μ-loop
 add-new c = search needs
@@ -49,7 +43,7 @@ new-requires : tie.Need-new-requires Inv-loop μ-loop
 new-requires c κs = search needs
 
 returns : tie.Need-returns Inv-loop μ-loop
-returns c = c .new .ensures ∙ scan-stops _ _ _ (c .before .before .before .before .before .before .before .loop .r) 19 _ (search needs) (search needs) (read-unmet _ _ (not-true _ (search needs))) (λ e. omega arith) (search needs)
+returns c = c .new .ensures ∙ scan-stops _ _ _ (c .before .before .before .before .before .before .loop .r) 19 _ (search needs) (search needs) (read-unmet _ _ (not-true _ (search needs))) (λ e. omega arith) (search needs)
 
 add-r : tie.Need-add-r Inv-loop μ-loop
 add-r c = search needs
@@ -72,13 +66,11 @@ reads-unmet-spec =
     (tie.spec
     Inv-loop
     μ-loop
-    shared-slice-read-wide
-    wide-requires
+    read-count-requires
     loop-holds
     element-copy-out-if1
-    shared-slice-read-wide-2
-    wide-requires-2
-    be16-requires
+    vertex-count-requires
+    arc-count-requires
     add-new
     add-new-2
     new-requires

@@ -15,11 +15,8 @@ Inv-loop s t n v₀ v = (n ≡ vertexCount s) × (v ≤ n) × (firstFault (verte
 abbrev μ-loop : tie.MeasureT-loop
 μ-loop s t n v₀ v = n - v
 
-shared-slice-read-wide : tie.Need-shared-slice-read-wide Inv-loop μ-loop
-shared-slice-read-wide c = search needs
-
-wide-requires : tie.Need-wide-requires Inv-loop μ-loop
-wide-requires c κs = search needs
+vertex-count-requires : tie.Need-vertex-count-requires Inv-loop μ-loop
+vertex-count-requires c κs = search needs
 
 loop-holds : tie.Need-loop-holds Inv-loop μ-loop
 loop-holds c = (search needs, search needs, scan-begins _ _ _)
@@ -54,8 +51,7 @@ vertex-slacks-spec =
     (tie.spec
     Inv-loop
     μ-loop
-    shared-slice-read-wide
-    wide-requires
+    vertex-count-requires
     loop-holds
     vertex-slack-fault-requires
     new-requires

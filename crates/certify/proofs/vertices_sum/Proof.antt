@@ -17,11 +17,8 @@ Inv-loop s t reads n sum₀ v₀ sum v = (n ≡ vertexCount s) × SumLeft (λ k.
 abbrev μ-loop : tie.MeasureT-loop
 μ-loop s t reads n sum₀ v₀ sum v = n - v
 
-shared-slice-read-wide : tie.Need-shared-slice-read-wide Inv-loop μ-loop
-shared-slice-read-wide c = search needs
-
-wide-requires : tie.Need-wide-requires Inv-loop μ-loop
-wide-requires c κs = search needs
+vertex-count-requires : tie.Need-vertex-count-requires Inv-loop μ-loop
+vertex-count-requires c κs = search needs
 
 loop-holds : tie.Need-loop-holds Inv-loop μ-loop
 loop-holds c = (search needs, sum-begin _ _)
@@ -34,8 +31,8 @@ element-copy-out-vertex-part c = search needs
 
 vertex-part-requires : tie.Need-vertex-part-requires Inv-loop μ-loop
 vertex-part-requires c κs =
-    let p = c .before .before .before .before .before .before .before .pre in
-    let inside : c .before .before .loop .v < vertexCount (c .before .before .before .before .before .before .before .args .s .now) = omega (arith, c .before .before .loop .inv .0, c .before .loop-test .taken) in
+    let p = c .before .before .before .before .before .before .pre in
+    let inside : c .before .before .loop .v < vertexCount (c .before .before .before .before .before .before .args .s .now) = omega (arith, c .before .before .loop .inv .0, c .before .loop-test .taken) in
     ((p .0 .0, p .0 .1, inside), (p .0 .2, p .1 _ inside))
 
 add-sum : tie.Need-add-sum Inv-loop μ-loop
@@ -51,7 +48,7 @@ loop-again : tie.Need-loop-again Inv-loop μ-loop
 loop-again c = (search needs, sum-turn _ _ _ _ _ (search needs) (search needs) (c .vertex-part .ensures))
 
 returns : tie.Need-returns Inv-loop μ-loop
-returns c = sum-end _ _ (c .before .loop .v) _ _ (c .before .loop .inv .1) (omega (arith, c .before .loop .inv .0, c .loop-test .left)) (c .before .before .before .before .before .before .pre .0 .0 .arcs .header .few-vertices)
+returns c = sum-end _ _ (c .before .loop .v) _ _ (c .before .loop .inv .1) (omega (arith, c .before .loop .inv .0, c .loop-test .left)) (c .before .before .before .before .before .pre .0 .0 .arcs .header .few-vertices)
 
 pub vertices-sum-spec : {M : Type 1} → statement M
 vertices-sum-spec =
@@ -59,8 +56,7 @@ vertices-sum-spec =
     (tie.spec
     Inv-loop
     μ-loop
-    shared-slice-read-wide
-    wide-requires
+    vertex-count-requires
     loop-holds
     mul-vertex-part
     element-copy-out-vertex-part

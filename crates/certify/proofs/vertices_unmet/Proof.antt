@@ -17,11 +17,8 @@ Inv-loop s totals n v₀ v = (n ≡ vertexCount s) × (v ≤ n) × (firstFault (
 abbrev μ-loop : tie.MeasureT-loop
 μ-loop s totals n v₀ v = n - v
 
-shared-slice-read-wide : tie.Need-shared-slice-read-wide Inv-loop μ-loop
-shared-slice-read-wide c = search needs
-
-wide-requires : tie.Need-wide-requires Inv-loop μ-loop
-wide-requires c κs = search needs
+vertex-count-requires : tie.Need-vertex-count-requires Inv-loop μ-loop
+vertex-count-requires c κs = search needs
 
 loop-holds : tie.Need-loop-holds Inv-loop μ-loop
 loop-holds c = (search needs, search needs, scan-begins _ _ _)
@@ -32,17 +29,8 @@ mul-if1 c = search needs
 element-copy-out-if1 : tie.Need-element-copy-out-if1 Inv-loop μ-loop
 element-copy-out-if1 c = search needs
 
-mul-be32 : tie.Need-mul-be32 Inv-loop μ-loop
-mul-be32 c = search needs
-
-add-be32 : tie.Need-add-be32 Inv-loop μ-loop
-add-be32 c = search needs
-
-add-be32-2 : tie.Need-add-be32-2 Inv-loop μ-loop
-add-be32-2 c = search needs
-
-be32-requires : tie.Need-be32-requires Inv-loop μ-loop
-be32-requires c κs = omega (arith, c .before .before .before .before .before .before .pre .vertices (c .before .before .loop .v) (search needs) .whole)
+vertex-demand-requires : tie.Need-vertex-demand-requires Inv-loop μ-loop
+vertex-demand-requires c κs = c .before .before .before .before .before .pre .vertices (c .before .before .loop .v) (search needs) .whole
 
 new-requires : tie.Need-new-requires Inv-loop μ-loop
 new-requires c κs = search needs
@@ -71,15 +59,11 @@ vertices-unmet-spec =
     (tie.spec
     Inv-loop
     μ-loop
-    shared-slice-read-wide
-    wide-requires
+    vertex-count-requires
     loop-holds
     mul-if1
     element-copy-out-if1
-    mul-be32
-    add-be32
-    add-be32-2
-    be32-requires
+    vertex-demand-requires
     new-requires
     returns
     add-v

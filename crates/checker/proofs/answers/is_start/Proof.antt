@@ -5,11 +5,11 @@ use borrow.Author.Needs.{needs}
 use Rattle.checker.proofs.answers.is_start.Statement.{statement}
 use Rattle.checker.proofs.answers.is_start.Tie as tie
 
-flag-of-requires : tie.Need-flag-of-requires
-flag-of-requires c κs = search needs
+vertex-flags-requires : tie.Need-vertex-flags-requires
+vertex-flags-requires c κs = c .before .pre .0 .vertices (c .before .args .v) (search needs) .whole
 
 returns : tie.Need-returns
-returns c = rw (c .flag-of .ensures) (sym (start-is _ _ (search needs)))
+returns c = rw (c .vertex-flags .ensures .0) (sym (start-is _ _ (search needs)))
 
 pub is-start-spec : {M : Type 1} → statement M
-is-start-spec = tie.close (tie.spec flag-of-requires returns)
+is-start-spec = tie.close (tie.spec vertex-flags-requires returns)

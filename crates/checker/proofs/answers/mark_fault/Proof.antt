@@ -4,8 +4,8 @@ use borrow.Author.Needs.{needs}
 use Rattle.checker.proofs.answers.mark_fault.Statement.{statement}
 use Rattle.checker.proofs.answers.mark_fault.Tie as tie
 
-be32-requires : tie.Need-be32-requires
-be32-requires c κs = search needs
+mark-bits-requires : tie.Need-mark-bits-requires
+mark-bits-requires c κs = search needs
 
 returns : tie.Need-returns
 returns c = mark-low _ _ (search needs)
@@ -20,4 +20,4 @@ returns-3 : tie.Need-returns-3
 returns-3 c = mark-between _ _ (search needs) (search needs)
 
 pub mark-fault-spec : {M : Type 1} → statement M
-mark-fault-spec = tie.close (tie.spec be32-requires returns sub-if2 returns-2 returns-3)
+mark-fault-spec = tie.close (tie.spec mark-bits-requires returns sub-if2 returns-2 returns-3)

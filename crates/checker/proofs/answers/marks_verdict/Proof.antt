@@ -13,8 +13,11 @@ abbrev μ-loop : tie.MeasureT-loop
 mul-left : tie.Need-mul-left Inv-loop μ-loop
 mul-left c = search needs
 
+in-mark-at-requires : tie.Need-in-mark-at-requires Inv-loop μ-loop
+in-mark-at-requires c κs = search needs
+
 loop-holds : tie.Need-loop-holds Inv-loop μ-loop
-loop-holds c = marks-begin _ _
+loop-holds c = marks-begin _ _ (search needs)
 
 mark-fault-requires : tie.Need-mark-fault-requires Inv-loop μ-loop
 mark-fault-requires c κs = search needs
@@ -22,8 +25,8 @@ mark-fault-requires c κs = search needs
 returns : tie.Need-returns Inv-loop μ-loop
 returns c = marks-stop (c .before .before .before .loop .inv) _ (search needs) (search needs) (search needs)
 
-add-at : tie.Need-add-at Inv-loop μ-loop
-add-at c = search needs
+mark-end-requires : tie.Need-mark-end-requires Inv-loop μ-loop
+mark-end-requires c κs = search needs
 
 sub-left : tie.Need-sub-left Inv-loop μ-loop
 sub-left c = search needs
@@ -32,7 +35,7 @@ loop-less : tie.Need-loop-less Inv-loop μ-loop
 loop-less c = search needs
 
 loop-again : tie.Need-loop-again Inv-loop μ-loop
-loop-again c = marks-turn (c .before .before .before .loop .inv) (search needs) (search needs)
+loop-again c = marks-turn (c .before .before .before .before .loop .inv) (search needs) (search needs) (c .mark-end .ensures)
 
 returns-2 : tie.Need-returns-2 Inv-loop μ-loop
 returns-2 c = marks-end (c .before .loop .inv) (search needs)
@@ -44,10 +47,11 @@ marks-verdict-spec =
     Inv-loop
     μ-loop
     mul-left
+    in-mark-at-requires
     loop-holds
     mark-fault-requires
     returns
-    add-at
+    mark-end-requires
     sub-left
     loop-less
     loop-again

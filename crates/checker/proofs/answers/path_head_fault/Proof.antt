@@ -5,20 +5,14 @@ use borrow.Author.Needs.{needs}
 use Rattle.checker.proofs.answers.path_head_fault.Statement.{statement}
 use Rattle.checker.proofs.answers.path_head_fault.Tie as tie
 
-sub-if1 : tie.Need-sub-if1
-sub-if1 c = search needs
+path-vertices-at-requires : tie.Need-path-vertices-at-requires
+path-vertices-at-requires c κs = search needs
 
 returns : tie.Need-returns
 returns c = (head-short _ _ _ (search needs), λ z. absurd (omega arith))
 
-add-wide : tie.Need-add-wide
-add-wide c = search needs
-
-shared-slice-read-wide : tie.Need-shared-slice-read-wide
-shared-slice-read-wide c = search needs
-
-wide-requires : tie.Need-wide-requires
-wide-requires c κs = search needs
+path-length-requires : tie.Need-path-length-requires
+path-length-requires c κs = search needs
 
 returns-2 : tie.Need-returns-2
 returns-2 c = (head-empty _ _ _ (search needs) (search needs), λ z. absurd (omega arith))
@@ -26,17 +20,14 @@ returns-2 c = (head-empty _ _ _ (search needs) (search needs), λ z. absurd (ome
 returns-3 : tie.Need-returns-3
 returns-3 c = (head-many _ _ _ (search needs) (search needs) (search needs), λ z. absurd (omega arith))
 
-add-if4 : tie.Need-add-if4
-add-if4 c = search needs
-
-add-if4-2 : tie.Need-add-if4-2
-add-if4-2 c = search needs
+path-end-requires : tie.Need-path-end-requires
+path-end-requires c κs = search needs
 
 returns-4 : tie.Need-returns-4
 returns-4 c = (head-past _ _ _ (search needs) (search needs) (search needs) (search needs), λ z. absurd (omega arith))
 
-be32-requires : tie.Need-be32-requires
-be32-requires c κs = search needs
+path-weight-requires : tie.Need-path-weight-requires
+path-weight-requires c κs = search needs
 
 returns-5 : tie.Need-returns-5
 returns-5 c = (head-light _ _ _ (search needs) (search needs) (search needs) (search needs) (search needs), λ z. absurd (omega arith))
@@ -54,17 +45,14 @@ pub path-head-fault-spec : {M : Type 1} → statement M
 path-head-fault-spec =
     tie.close
     (tie.spec
-    sub-if1
+    path-vertices-at-requires
     returns
-    add-wide
-    shared-slice-read-wide
-    wide-requires
+    path-length-requires
     returns-2
     returns-3
-    add-if4
-    add-if4-2
+    path-end-requires
     returns-4
-    be32-requires
+    path-weight-requires
     returns-5
     add-if6
     returns-6

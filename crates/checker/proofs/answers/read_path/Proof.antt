@@ -14,38 +14,32 @@ path-head-fault-requires c κs = search needs
 returns : tie.Need-returns
 returns c = record-refused _ _ _ _ _ (fault-head _ _ _ _ _ _ (c .before .path-head-fault .ensures .0) (c .if1 .taken)) (c .if1 .taken)
 
-be32-requires : tie.Need-be32-requires
-be32-requires c κs = omega (arith, (c .before .path-head-fault .ensures .1 (c .if1 .left)))
+path-weight-requires : tie.Need-path-weight-requires
+path-weight-requires c κs = omega (arith, (c .before .path-head-fault .ensures .1 (c .if1 .left)))
 
-add-wide : tie.Need-add-wide
-add-wide c = search needs
+path-length-requires : tie.Need-path-length-requires
+path-length-requires c κs = omega (arith, (c .before .before .path-head-fault .ensures .1 (c .before .if1 .left)))
 
-shared-slice-read-wide : tie.Need-shared-slice-read-wide
-shared-slice-read-wide c = omega (arith, (c .before .before .before .path-head-fault .ensures .1 (c .before .before .if1 .left)))
-
-wide-requires : tie.Need-wide-requires
-wide-requires c κs = search needs
-
-add-b : tie.Need-add-b
-add-b c = search needs
+path-vertices-at-requires : tie.Need-path-vertices-at-requires
+path-vertices-at-requires c κs = omega (arith, (c .before .before .before .path-head-fault .ensures .1 (c .before .before .if1 .left)))
 
 walk-path-requires : tie.Need-walk-path-requires
-walk-path-requires c κs = ((c .before .before .before .before .before .before .before .before .before .pre .0 .0, c .before .before .before .before .before .before .before .before .before .pre .0 .1, omega (arith, (c .before .before .before .before .before .before .path-head-fault .ensures .1 (c .before .before .before .before .before .if1 .left)), (c .before .before .wide .ensures .0)), omega (arith, (c .before .before .before .before .before .before .path-head-fault .ensures .1 (c .before .before .before .before .before .if1 .left)), (c .before .before .wide .ensures .0))), (omega (arith, (c .before .before .before .before .before .before .path-head-fault .ensures .1 (c .before .before .before .before .before .if1 .left)), (c .before .before .wide .ensures .0)), room-for (c .before .before .before .before .before .before .before .before .before .pre .1 .0) (omega (arith, (c .before .before .before .before .before .before .path-head-fault .ensures .1 (c .before .before .before .before .before .if1 .left)), (c .before .before .before .before .be32 .ensures .0)))))
+walk-path-requires c κs = ((c .before .before .before .before .before .before .before .before .before .pre .0 .0, c .before .before .before .before .before .before .before .before .before .pre .0 .1, omega (arith, (c .before .before .before .before .before .before .path-head-fault .ensures .1 (c .before .before .before .before .before .if1 .left)), (c .before .before .before .path-length .ensures .0), (c .before .before .path-vertices-at .ensures)), omega (arith, (c .before .before .before .before .before .before .path-head-fault .ensures .1 (c .before .before .before .before .before .if1 .left)), (c .before .before .before .path-length .ensures .0), (c .before .before .path-vertices-at .ensures))), (omega (arith, (c .before .before .before .before .before .before .path-head-fault .ensures .1 (c .before .before .before .before .before .if1 .left)), (c .before .before .before .path-length .ensures .0), (c .before .before .path-vertices-at .ensures)), room-for (c .before .before .before .before .before .before .before .before .before .pre .1 .0) (omega (arith, (c .before .before .before .before .before .before .path-head-fault .ensures .1 (c .before .before .before .before .before .if1 .left)), (c .before .before .before .before .path-weight .ensures .0)))))
 
 returns-2 : tie.Need-returns-2
-returns-2 c = record-no-path _ _ _ _ _ (c .before .before .before .before .before .before .before .before .before .path-head-fault .ensures .1 (c .before .before .before .before .before .before .before .before .if1 .left)) (sym (c .before .before .before .before .before .before .before .before .before .path-head-fault .ensures .0) ∙ c .before .before .before .before .before .before .before .before .if1 .left) (c .before .before .before .before .before .before .before .be32 .ensures .0) (c .before .before .before .before .before .wide .ensures .0) (c .before .before .walk-path .ensures) (not-true _ (c .if2 .taken))
+returns-2 c = record-no-path _ _ _ _ _ (c .before .before .before .before .before .before .before .before .before .path-head-fault .ensures .1 (c .before .before .before .before .before .before .before .before .if1 .left)) (sym (c .before .before .before .before .before .before .before .before .before .path-head-fault .ensures .0) ∙ c .before .before .before .before .before .before .before .before .if1 .left) (c .before .before .before .before .before .before .before .path-weight .ensures .0) (c .before .before .before .before .before .before .path-length .ensures .0) (c .before .before .before .before .before .path-vertices-at .ensures) (c .before .before .walk-path .ensures) (not-true _ (c .if2 .taken))
 
 comes-before-requires : tie.Need-comes-before-requires
-comes-before-requires c κs = (c .before .before .before .before .before .before .before .before .before .before .before .before .pre .0 .3, omega (arith, (c .before .before .before .before .before .before .before .before .before .path-head-fault .ensures .1 (c .before .before .before .before .before .before .before .before .if1 .left)), (c .before .before .before .before .before .wide .ensures .0)))
+comes-before-requires c κs = (c .before .before .before .before .before .before .before .before .before .before .before .before .pre .0 .3, omega (arith, (c .before .before .before .before .before .before .before .before .before .path-head-fault .ensures .1 (c .before .before .before .before .before .before .before .before .if1 .left)), (c .before .before .before .before .before .before .path-length .ensures .0), (c .before .before .before .before .before .path-vertices-at .ensures)))
 
 returns-3 : tie.Need-returns-3
-returns-3 c = record-no-order _ _ _ _ _ (c .before .before .before .before .before .before .before .before .before .before .before .path-head-fault .ensures .1 (c .before .before .before .before .before .before .before .before .before .before .if1 .left)) (sym (c .before .before .before .before .before .before .before .before .before .before .before .path-head-fault .ensures .0) ∙ c .before .before .before .before .before .before .before .before .before .before .if1 .left) (c .before .before .before .before .before .before .before .before .before .be32 .ensures .0) (c .before .before .before .before .before .before .before .wide .ensures .0) (c .before .before .before .before .walk-path .ensures) (not-false _ (c .before .before .if2 .left)) (c .before .comes-before .ensures) (not-true _ (c .if3 .taken))
+returns-3 c = record-no-order _ _ _ _ _ (c .before .before .before .before .before .before .before .before .before .before .before .path-head-fault .ensures .1 (c .before .before .before .before .before .before .before .before .before .before .if1 .left)) (sym (c .before .before .before .before .before .before .before .before .before .before .before .path-head-fault .ensures .0) ∙ c .before .before .before .before .before .before .before .before .before .before .if1 .left) (c .before .before .before .before .before .before .before .before .before .path-weight .ensures .0) (c .before .before .before .before .before .before .before .before .path-length .ensures .0) (c .before .before .before .before .before .before .before .path-vertices-at .ensures) (c .before .before .before .before .walk-path .ensures) (not-false _ (c .before .before .if2 .left)) (c .before .comes-before .ensures) (not-true _ (c .if3 .taken))
 
 mark-reads-requires : tie.Need-mark-reads-requires
-mark-reads-requires c κs = (c .before .before .before .before .before .before .before .before .before .before .before .before .before .before .before .pre .0 .0, omega (arith, (c .before .before .before .before .before .before .before .before .before .before .before .before .path-head-fault .ensures .1 (c .before .before .before .before .before .before .before .before .before .before .before .if1 .left)), (c .before .before .before .before .before .before .before .before .wide .ensures .0)), c .before .before .before .before .before .before .before .before .before .before .before .before .before .before .before .pre .1 .1, walked-rises (c .before .before .before .before .before .before .before .before .before .before .before .before .before .before .before .pre .0 .0) (c .before .before .before .before .before .walk-path .ensures) (not-false _ (c .before .before .before .if2 .left)))
+mark-reads-requires c κs = (c .before .before .before .before .before .before .before .before .before .before .before .before .before .before .before .pre .0 .0, omega (arith, (c .before .before .before .before .before .before .before .before .before .before .before .before .path-head-fault .ensures .1 (c .before .before .before .before .before .before .before .before .before .before .before .if1 .left)), (c .before .before .before .before .before .before .before .before .before .path-length .ensures .0), (c .before .before .before .before .before .before .before .before .path-vertices-at .ensures)), c .before .before .before .before .before .before .before .before .before .before .before .before .before .before .before .pre .1 .1, walked-rises (c .before .before .before .before .before .before .before .before .before .before .before .before .before .before .before .pre .0 .0) (c .before .before .before .before .before .walk-path .ensures) (not-false _ (c .before .before .before .if2 .left)))
 
 returns-4 : tie.Need-returns-4
-returns-4 c = record-right _ _ _ _ _ (c .before .before .before .before .before .before .before .before .before .before .before .before .before .path-head-fault .ensures .1 (c .before .before .before .before .before .before .before .before .before .before .before .before .if1 .left)) (sym (c .before .before .before .before .before .before .before .before .before .before .before .before .before .path-head-fault .ensures .0) ∙ c .before .before .before .before .before .before .before .before .before .before .before .before .if1 .left) (c .before .before .before .before .before .before .before .before .before .before .before .be32 .ensures .0) (c .before .before .before .before .before .before .before .before .before .wide .ensures .0) (c .before .before .before .before .before .before .walk-path .ensures) (not-false _ (c .before .before .before .before .if2 .left)) (c .before .before .before .comes-before .ensures) (not-false _ (c .before .before .if3 .left)) (c .mark-reads .ensures)
+returns-4 c = record-right _ _ _ _ _ (c .before .before .before .before .before .before .before .before .before .before .before .before .before .path-head-fault .ensures .1 (c .before .before .before .before .before .before .before .before .before .before .before .before .if1 .left)) (sym (c .before .before .before .before .before .before .before .before .before .before .before .before .before .path-head-fault .ensures .0) ∙ c .before .before .before .before .before .before .before .before .before .before .before .before .if1 .left) (c .before .before .before .before .before .before .before .before .before .before .before .path-weight .ensures .0) (c .before .before .before .before .before .before .before .before .before .before .path-length .ensures .0) (c .before .before .before .before .before .before .before .before .before .path-vertices-at .ensures) (c .before .before .before .before .before .before .walk-path .ensures) (not-false _ (c .before .before .before .before .if2 .left)) (c .before .before .before .comes-before .ensures) (not-false _ (c .before .before .if3 .left)) (c .mark-reads .ensures)
 
 pub read-path-spec : {M : Type 1} → statement M
 read-path-spec =
@@ -53,11 +47,9 @@ read-path-spec =
     (tie.spec
     path-head-fault-requires
     returns
-    be32-requires
-    add-wide
-    shared-slice-read-wide
-    wide-requires
-    add-b
+    path-weight-requires
+    path-length-requires
+    path-vertices-at-requires
     walk-path-requires
     returns-2
     comes-before-requires

@@ -18,24 +18,24 @@ returns : tie.Need-returns
 unfolding handOutVerdict then
 returns c = then-refused _ (c .before .before .check .ensures) (search needs)
 
-be16-requires : tie.Need-be16-requires
-be16-requires c κs = omega (arith, number-zero-accepted _ _ (ap (λ (v : Verdict). v .number) (sym (c .before .before .check .ensures)) ∙ c .if1 .left) .header .long)
+path-count-requires : tie.Need-path-count-requires
+path-count-requires c κs = omega (arith, number-zero-accepted _ _ (ap (λ (v : Verdict). v .number) (sym (c .before .before .check .ensures)) ∙ c .if1 .left) .header .long)
 
 new-requires : tie.Need-new-requires
 new-requires c κs = search needs
 
 returns-2 : tie.Need-returns-2
 unfolding handOutVerdict then
-returns-2 c = then-passed (c .before .before .before .before .before .check .ensures) (search needs) (c .new .ensures ∙ no-such-path _ _ _ (c .before .before .be16 .ensures .0) (search needs))
+returns-2 c = then-passed (c .before .before .before .before .before .check .ensures) (search needs) (c .new .ensures ∙ no-such-path _ _ _ (c .before .before .path-count .ensures .0) (search needs))
 
 new-requires-2 : tie.Need-new-requires-2
 new-requires-2 c κs = search needs
 
 returns-3 : tie.Need-returns-3
 unfolding handOutVerdict then
-returns-3 c = then-passed (c .before .before .before .before .before .check .ensures) (search needs) (c .new2 .ensures ∙ such-path _ _ _ (c .before .before .be16 .ensures .0) (search needs))
+returns-3 c = then-passed (c .before .before .before .before .before .check .ensures) (search needs) (c .new2 .ensures ∙ such-path _ _ _ (c .before .before .path-count .ensures .0) (search needs))
 
 pub hand-out-verdict-spec : {M : Type 1} → statement M
 hand-out-verdict-spec =
     tie.close
-    (tie.spec check-requires returns be16-requires new-requires returns-2 new-requires-2 returns-3)
+    (tie.spec check-requires returns path-count-requires new-requires returns-2 new-requires-2 returns-3)

@@ -14,20 +14,8 @@ abbrev μ-loop : tie.MeasureT-loop
 loop-holds : tie.Need-loop-holds Inv-loop μ-loop
 loop-holds c = pass-begin (search needs)
 
-add-at : tie.Need-add-at Inv-loop μ-loop
-add-at c = omega (arith, pass-within (c .before .loop .inv))
-
-add-wide : tie.Need-add-wide Inv-loop μ-loop
-add-wide c = omega (arith, pass-within (c .before .loop .inv))
-
-shared-slice-read-wide : tie.Need-shared-slice-read-wide Inv-loop μ-loop
-shared-slice-read-wide c = omega (arith, pass-within (c .before .before .loop .inv))
-
-wide-requires : tie.Need-wide-requires Inv-loop μ-loop
-wide-requires c κs = search needs
-
-add-at-2 : tie.Need-add-at-2 Inv-loop μ-loop
-add-at-2 c = omega (arith, pass-within (c .before .before .before .loop .inv), c .wide .ensures .0)
+path-end-requires : tie.Need-path-end-requires Inv-loop μ-loop
+path-end-requires c κs = omega (arith, pass-within (c .before .loop .inv))
 
 sub-left : tie.Need-sub-left Inv-loop μ-loop
 sub-left c = search needs
@@ -36,7 +24,7 @@ loop-less : tie.Need-loop-less Inv-loop μ-loop
 loop-less c = search needs
 
 loop-again : tie.Need-loop-again Inv-loop μ-loop
-loop-again c = pass-turn (c .before .before .before .loop .inv) _ (c .wide .ensures .0) (search needs)
+loop-again c = pass-turn (c .before .before .loop .inv) (c .path-end .ensures) (search needs)
 
 returns : tie.Need-returns Inv-loop μ-loop
 returns c = pass-end (c .before .loop .inv) (search needs)
@@ -48,11 +36,7 @@ path-at-spec =
     Inv-loop
     μ-loop
     loop-holds
-    add-at
-    add-wide
-    shared-slice-read-wide
-    wide-requires
-    add-at-2
+    path-end-requires
     sub-left
     loop-less
     loop-again

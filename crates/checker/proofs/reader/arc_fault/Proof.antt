@@ -4,44 +4,32 @@ use borrow.Author.Needs.{needs}
 use Rattle.checker.proofs.reader.arc_fault.Statement.{statement}
 use Rattle.checker.proofs.reader.arc_fault.Tie as tie
 
-add-if1 : tie.Need-add-if1
-add-if1 c = search needs
+add-arc-at : tie.Need-add-arc-at
+add-arc-at c = search needs
+
+arc-at-requires : tie.Need-arc-at-requires
+arc-at-requires c κs = search needs
 
 returns : tie.Need-returns
 returns c = arc-short _ _ (search needs)
 
-add-be32 : tie.Need-add-be32
-add-be32 c = search needs
-
-be32-requires : tie.Need-be32-requires
-be32-requires c κs = search needs
+arc-cost-requires : tie.Need-arc-cost-requires
+arc-cost-requires c κs = search needs
 
 returns-2 : tie.Need-returns-2
 returns-2 c = arc-cost _ _ (search needs) (search needs)
 
-add-be32-2 : tie.Need-add-be32-2
-add-be32-2 c = search needs
-
-be32-requires-2 : tie.Need-be32-requires-2
-be32-requires-2 c κs = search needs
+arc-demand-requires : tie.Need-arc-demand-requires
+arc-demand-requires c κs = search needs
 
 returns-3 : tie.Need-returns-3
 returns-3 c = arc-demand _ _ (search needs) (search needs) (search needs)
 
-add-wide : tie.Need-add-wide
-add-wide c = search needs
+arc-head-requires : tie.Need-arc-head-requires
+arc-head-requires c κs = search needs
 
-shared-slice-read-wide : tie.Need-shared-slice-read-wide
-shared-slice-read-wide c = search needs
-
-wide-requires : tie.Need-wide-requires
-wide-requires c κs = search needs
-
-shared-slice-read-wide-2 : tie.Need-shared-slice-read-wide-2
-shared-slice-read-wide-2 c = search needs
-
-wide-requires-2 : tie.Need-wide-requires-2
-wide-requires-2 c κs = search needs
+arc-tail-requires : tie.Need-arc-tail-requires
+arc-tail-requires c κs = search needs
 
 returns-4 : tie.Need-returns-4
 returns-4 c = arc-falls _ _ (search needs) (search needs) (search needs) (search needs)
@@ -49,54 +37,42 @@ returns-4 c = arc-falls _ _ (search needs) (search needs) (search needs) (search
 returns-5 : tie.Need-returns-5
 returns-5 c = arc-outside _ _ (search needs) (search needs) (search needs) (search needs) (search needs)
 
-mul-if6 : tie.Need-mul-if6
-mul-if6 c = search needs
-
-add-if6 : tie.Need-add-if6
-add-if6 c = search needs
-
 returns-6 : tie.Need-returns-6
 returns-6 c = arc-first _ _ (search needs) (search needs) (search needs) (search needs) (search needs) (search needs)
 
-be16-requires : tie.Need-be16-requires
-be16-requires c κs = search needs
+arc-ends-requires : tie.Need-arc-ends-requires
+arc-ends-requires c κs = search needs
 
-sub-be16 : tie.Need-sub-be16
-sub-be16 c = search needs
+sub-arc-ends : tie.Need-sub-arc-ends
+sub-arc-ends c = search needs
 
-be16-requires-2 : tie.Need-be16-requires-2
-be16-requires-2 c κs = search needs
+arc-ends-requires-2 : tie.Need-arc-ends-requires-2
+arc-ends-requires-2 c κs = search needs
 
 returns-7 : tie.Need-returns-7
-returns-7 c = arc-repeats _ _ (search needs) (search needs) (search needs) (search needs) (search needs) (search needs) (λ k. c .before .before .before .before .before .before .before .shared-slice-known3 .given k .fits) (search needs)
+returns-7 c = arc-repeats _ _ (search needs) (search needs) (search needs) (search needs) (search needs) (search needs) (c .before .arc-ends2 .ensures .1) (search needs)
 
 returns-8 : tie.Need-returns-8
-returns-8 c = arc-right _ _ (search needs) (search needs) (search needs) (search needs) (search needs) (search needs) (λ k. c .before .before .before .before .before .before .before .shared-slice-known3 .given k .fits) (search needs)
+returns-8 c = arc-right _ _ (search needs) (search needs) (search needs) (search needs) (search needs) (search needs) (c .before .before .arc-ends .ensures .1) (search needs)
 
 pub arc-fault-spec : {M : Type 1} → statement M
 arc-fault-spec =
     tie.close
     (tie.spec
-    add-if1
+    add-arc-at
+    arc-at-requires
     returns
-    add-be32
-    be32-requires
+    arc-cost-requires
     returns-2
-    add-be32-2
-    be32-requires-2
+    arc-demand-requires
     returns-3
-    add-wide
-    shared-slice-read-wide
-    wide-requires
-    shared-slice-read-wide-2
-    wide-requires-2
+    arc-head-requires
+    arc-tail-requires
     returns-4
     returns-5
-    mul-if6
-    add-if6
     returns-6
-    be16-requires
-    sub-be16
-    be16-requires-2
+    arc-ends-requires
+    sub-arc-ends
+    arc-ends-requires-2
     returns-7
     returns-8)

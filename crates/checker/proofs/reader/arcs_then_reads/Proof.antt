@@ -7,55 +7,39 @@ use borrow.Author.Needs.{needs}
 use Rattle.checker.proofs.reader.arcs_then_reads.Statement.{statement}
 use Rattle.checker.proofs.reader.arcs_then_reads.Tie as tie
 
-be16-requires : tie.Need-be16-requires
-be16-requires c κs = search needs
+arc-count-requires : tie.Need-arc-count-requires
+arc-count-requires c κs = search needs
 
 arcs-verdict-requires : tie.Need-arcs-verdict-requires
 arcs-verdict-requires c κs = search needs
 
 returns : tie.Need-returns
-returns c = then-refused _ (counted _ _ (c .before .before .arcs-verdict .ensures) (c .before .before .before .be16 .ensures .0)) (search needs)
+returns c = then-refused _ (counted _ _ (c .before .before .arcs-verdict .ensures) (c .before .before .before .arc-count .ensures .0)) (search needs)
 
 first-arcs-requires : tie.Need-first-arcs-requires
-first-arcs-requires c κs = arcs-hold _ (c .before .before .before .before .before .pre .0) (ap (λ (v : Verdict). v .number) (sym (counted _ _ (c .before .before .arcs-verdict .ensures) (c .before .before .before .be16 .ensures .0))) ∙ c .if1 .left)
+first-arcs-requires c κs = arcs-hold _ (c .before .before .before .before .before .pre .0) (ap (λ (v : Verdict). v .number) (sym (counted _ _ (c .before .before .arcs-verdict .ensures) (c .before .before .before .arc-count .ensures .0))) ∙ c .if1 .left)
 
-shared-slice-read-wide : tie.Need-shared-slice-read-wide
-shared-slice-read-wide c = search needs
+read-count-requires : tie.Need-read-count-requires
+read-count-requires c κs = search needs
 
-wide-requires : tie.Need-wide-requires
-wide-requires c κs = search needs
-
-mul-reads-verdict : tie.Need-mul-reads-verdict
-mul-reads-verdict c = search needs
-
-add-reads-verdict : tie.Need-add-reads-verdict
-add-reads-verdict c = search needs
-
-mul-reads-verdict-2 : tie.Need-mul-reads-verdict-2
-mul-reads-verdict-2 c = search needs
-
-add-reads-verdict-2 : tie.Need-add-reads-verdict-2
-add-reads-verdict-2 c = search needs
+first-read-at-requires : tie.Need-first-read-at-requires
+first-read-at-requires c κs = search needs
 
 reads-verdict-requires : tie.Need-reads-verdict-requires
 reads-verdict-requires c κs = search needs
 
 returns-2 : tie.Need-returns-2
-returns-2 c = then-passed (counted _ _ (c .before .before .before .before .before .before .before .arcs-verdict .ensures) (c .before .before .before .before .before .before .before .before .be16 .ensures .0)) (search needs) (reads-counted _ (c .reads-verdict .ensures) (c .before .wide .ensures .0) (search needs))
+returns-2 c = then-passed (counted _ _ (c .before .before .before .before .before .before .before .arcs-verdict .ensures) (c .before .before .before .before .before .before .before .before .arc-count .ensures .0)) (search needs) (reads-counted _ (c .reads-verdict .ensures) (c .before .before .read-count .ensures .0) (c .before .first-read-at .ensures))
 
 pub arcs-then-reads-spec : {M : Type 1} → statement M
 arcs-then-reads-spec =
     tie.close
     (tie.spec
-    be16-requires
+    arc-count-requires
     arcs-verdict-requires
     returns
     first-arcs-requires
-    shared-slice-read-wide
-    wide-requires
-    mul-reads-verdict
-    add-reads-verdict
-    mul-reads-verdict-2
-    add-reads-verdict-2
+    read-count-requires
+    first-read-at-requires
     reads-verdict-requires
     returns-2)

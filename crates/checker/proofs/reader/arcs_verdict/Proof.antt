@@ -1,7 +1,7 @@
 -- `checker::reader::arcs_verdict` meets its contract: the answer of all records is that of those not yet passed.
 use borrow.Author.Needs.{needs}
 use Prim.Native.Nat.{_-_, _≤_}
-use mathlib.Core.Path.{_≡_, _∙_, ap}
+use mathlib.Core.Path.{_≡_, _∙_}
 use Rattle.forms.proofs.Scan.{scan-begins, scan-turns, scan-stops, scan-ends}
 use Rattle.forms.specs.GraphForm.{arcAt}
 use Rattle.forms.specs.GraphFaults.{firstFault, arcFault}
@@ -9,40 +9,25 @@ use Rattle.checker.proofs.reader.arcs_verdict.Statement.{statement}
 use Rattle.checker.proofs.reader.arcs_verdict.Tie as tie
 
 abbrev Inv-loop : tie.InvT-loop
-Inv-loop s n count base a₀ a = (a ≤ count) × (firstFault (λ a. arcFault s (arcAt s a)) (arcAt s) count 0 ≡ firstFault (λ a. arcFault s (arcAt s a)) (arcAt s) (count - a) a)
+Inv-loop s n count a₀ a = (a ≤ count) × (firstFault (λ a. arcFault s (arcAt s a)) (arcAt s) count 0 ≡ firstFault (λ a. arcFault s (arcAt s a)) (arcAt s) (count - a) a)
 
 abbrev μ-loop : tie.MeasureT-loop
-μ-loop s n count base a₀ a = count - a
-
-mul-base : tie.Need-mul-base Inv-loop μ-loop
-mul-base c = search needs
-
-add-base : tie.Need-add-base Inv-loop μ-loop
-add-base c = search needs
+μ-loop s n count a₀ a = count - a
 
 loop-holds : tie.Need-loop-holds Inv-loop μ-loop
 loop-holds c = (search needs, scan-begins _ _ _)
 
-mul-arc-fault : tie.Need-mul-arc-fault Inv-loop μ-loop
-mul-arc-fault c = search needs
-
-add-arc-fault : tie.Need-add-arc-fault Inv-loop μ-loop
-add-arc-fault c = search needs
-
 arc-fault-requires : tie.Need-arc-fault-requires Inv-loop μ-loop
 arc-fault-requires c κs = search needs
 
-mul-new : tie.Need-mul-new Inv-loop μ-loop
-mul-new c = search needs
-
-add-new : tie.Need-add-new Inv-loop μ-loop
-add-new c = search needs
+arc-at-requires : tie.Need-arc-at-requires Inv-loop μ-loop
+arc-at-requires c κs = search needs
 
 new-requires : tie.Need-new-requires Inv-loop μ-loop
 new-requires c κs = search needs
 
 returns : tie.Need-returns Inv-loop μ-loop
-returns c = c .new .ensures ∙ scan-stops _ _ _ (c .before .before .before .before .loop .a) _ _ (search needs) (search needs) (c .before .before .arc-fault .ensures ∙ ap (arcFault _) (search needs)) (search needs) (search needs)
+returns c = c .new .ensures ∙ scan-stops _ _ _ (c .before .before .before .before .before .loop .a) _ _ (search needs) (search needs) (c .before .before .before .arc-fault .ensures) (search needs) (search needs)
 
 add-a : tie.Need-add-a Inv-loop μ-loop
 add-a c = search needs
@@ -51,7 +36,7 @@ loop-less : tie.Need-loop-less Inv-loop μ-loop
 loop-less c = search needs
 
 loop-again : tie.Need-loop-again Inv-loop μ-loop
-loop-again c = (search needs, scan-turns _ _ _ _ _ (search needs) (search needs) (c .before .arc-fault .ensures ∙ ap (arcFault _) (search needs)) (search needs))
+loop-again c = (search needs, scan-turns _ _ _ _ _ (search needs) (search needs) (c .before .arc-fault .ensures) (search needs))
 
 new-requires-2 : tie.Need-new-requires-2 Inv-loop μ-loop
 new-requires-2 c κs = search needs
@@ -65,14 +50,9 @@ arcs-verdict-spec =
     (tie.spec
     Inv-loop
     μ-loop
-    mul-base
-    add-base
     loop-holds
-    mul-arc-fault
-    add-arc-fault
     arc-fault-requires
-    mul-new
-    add-new
+    arc-at-requires
     new-requires
     returns
     add-a

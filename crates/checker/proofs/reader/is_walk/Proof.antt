@@ -21,14 +21,26 @@ Inv-loop s first form at count n end u₀ i₀ u i =
 abbrev μ-loop : tie.MeasureT-loop
 μ-loop s first form at count n end u₀ i₀ u i = end - i
 
+vertex-count-requires : tie.Need-vertex-count-requires Inv-loop μ-loop
+vertex-count-requires c κs = search needs
+
+add-end : tie.Need-add-end Inv-loop μ-loop
+add-end c = search needs
+
 shared-slice-read-wide : tie.Need-shared-slice-read-wide Inv-loop μ-loop
 shared-slice-read-wide c = search needs
 
 wide-requires : tie.Need-wide-requires Inv-loop μ-loop
 wide-requires c κs = search needs
 
-add-end : tie.Need-add-end Inv-loop μ-loop
-add-end c = search needs
+returns : tie.Need-returns Inv-loop μ-loop
+returns c = walk-outside _ _ _ _ _ (search needs) (search needs) (c .before .wide .ensures .0) (search needs)
+
+add-i : tie.Need-add-i Inv-loop μ-loop
+add-i c = search needs
+
+loop-holds : tie.Need-loop-holds Inv-loop μ-loop
+loop-holds c = (c .before .before .before .before .before .before .pre .0, (search needs), (search needs), (search needs), walk-begins _ _ _ _ _ (search needs) (search needs) (c .before .wide .ensures .0) (search needs))
 
 shared-slice-read-wide-2 : tie.Need-shared-slice-read-wide-2 Inv-loop μ-loop
 shared-slice-read-wide-2 c = search needs
@@ -36,26 +48,11 @@ shared-slice-read-wide-2 c = search needs
 wide-requires-2 : tie.Need-wide-requires-2 Inv-loop μ-loop
 wide-requires-2 c κs = search needs
 
-returns : tie.Need-returns Inv-loop μ-loop
-returns c = walk-outside _ _ _ _ _ (search needs) (search needs) (c .before .wide2 .ensures .0) (search needs)
-
-add-i : tie.Need-add-i Inv-loop μ-loop
-add-i c = search needs
-
-loop-holds : tie.Need-loop-holds Inv-loop μ-loop
-loop-holds c = (c .before .before .before .before .before .before .before .pre .0, (search needs), (search needs), (search needs), walk-begins _ _ _ _ _ (search needs) (search needs) (c .before .wide2 .ensures .0) (search needs))
-
-shared-slice-read-wide-3 : tie.Need-shared-slice-read-wide-3 Inv-loop μ-loop
-shared-slice-read-wide-3 c = search needs
-
-wide-requires-3 : tie.Need-wide-requires-3 Inv-loop μ-loop
-wide-requires-3 c κs = search needs
-
 goes-on-requires : tie.Need-goes-on-requires Inv-loop μ-loop
 goes-on-requires c κs = search needs
 
 returns-2 : tie.Need-returns-2 Inv-loop μ-loop
-returns-2 c = sym (c .before .before .before .before .before .loop .inv .4 ∙ walk-stops _ _ _ _ _ _ (search needs) (search needs) (c .before .before .wide3 .ensures .0) (c .before .goes-on .ensures) (not-true _ (c .if2 .taken)))
+returns-2 c = sym (c .before .before .before .before .before .loop .inv .4 ∙ walk-stops _ _ _ _ _ _ (search needs) (search needs) (c .before .before .wide2 .ensures .0) (c .before .goes-on .ensures) (not-true _ (c .if2 .taken)))
 
 add-i-2 : tie.Need-add-i-2 Inv-loop μ-loop
 add-i-2 c = search needs
@@ -71,7 +68,7 @@ loop-again c =
       omega (arith, goes-inside _ _ _ _ (c .before .goes-on .ensures) (not-false _ (c .if2 .left))),
       i .3,
       i .4
-          ∙ walk-turns _ _ _ _ _ _ (c .before .before .before .before .loop-test .taken) (i .3) (c .before .before .wide3 .ensures .0) (c .before .goes-on .ensures) (not-false _ (c .if2 .left)),
+          ∙ walk-turns _ _ _ _ _ _ (c .before .before .before .before .loop-test .taken) (i .3) (c .before .before .wide2 .ensures .0) (c .before .goes-on .ensures) (not-false _ (c .if2 .left)),
     )
 
 returns-3 : tie.Need-returns-3 Inv-loop μ-loop
@@ -83,16 +80,15 @@ is-walk-spec =
     (tie.spec
     Inv-loop
     μ-loop
+    vertex-count-requires
+    add-end
     shared-slice-read-wide
     wide-requires
-    add-end
-    shared-slice-read-wide-2
-    wide-requires-2
     returns
     add-i
     loop-holds
-    shared-slice-read-wide-3
-    wide-requires-3
+    shared-slice-read-wide-2
+    wide-requires-2
     goes-on-requires
     returns-2
     add-i-2

@@ -8,11 +8,8 @@ use Rattle.checker.proofs.reader.read_fault.Tie as tie
 returns : tie.Need-returns
 returns c = read-missing _ _ (search needs)
 
-shared-slice-read-wide : tie.Need-shared-slice-read-wide
-shared-slice-read-wide c = search needs
-
-wide-requires : tie.Need-wide-requires
-wide-requires c κs = search needs
+read-length-requires : tie.Need-read-length-requires
+read-length-requires c κs = search needs
 
 returns-2 : tie.Need-returns-2
 returns-2 c = read-few _ _ (search needs) (search needs)
@@ -20,40 +17,35 @@ returns-2 c = read-few _ _ (search needs) (search needs)
 returns-3 : tie.Need-returns-3
 returns-3 c = read-many _ _ (search needs) (search needs) (search needs)
 
-add-if4 : tie.Need-add-if4
-add-if4 c = search needs
-
-add-if4-2 : tie.Need-add-if4-2
-add-if4-2 c = search needs
+read-end-requires : tie.Need-read-end-requires
+read-end-requires c κs = search needs
 
 returns-4 : tie.Need-returns-4
 returns-4 c = read-short _ _ (search needs) (search needs) (search needs) (search needs)
 
-add-is-walk : tie.Need-add-is-walk
-add-is-walk c = search needs
+read-vertices-at-requires : tie.Need-read-vertices-at-requires
+read-vertices-at-requires c κs = search needs
 
 is-walk-requires : tie.Need-is-walk-requires
 is-walk-requires c κs = search needs
 
 returns-5 : tie.Need-returns-5
-returns-5 c = read-broken _ _ (search needs) (search needs) (search needs) (search needs) (c .before .before .before .before .before .wide .ensures .0) (c .before .is-walk .ensures) (not-true _ (c .if5 .taken))
+returns-5 c = read-broken _ _ (search needs) (search needs) (search needs) (search needs) (c .before .before .before .before .before .before .before .read-length .ensures .0) (c .before .before .read-vertices-at .ensures) (c .before .is-walk .ensures) (not-true _ (c .if5 .taken))
 
 returns-6 : tie.Need-returns-6
-returns-6 c = read-right _ _ (search needs) (search needs) (search needs) (search needs) (c .before .before .before .before .before .wide .ensures .0) (c .before .is-walk .ensures) (not-false _ (c .if5 .left))
+returns-6 c = read-right _ _ (search needs) (search needs) (search needs) (search needs) (c .before .before .before .before .before .before .before .read-length .ensures .0) (c .before .before .read-vertices-at .ensures) (c .before .is-walk .ensures) (not-false _ (c .if5 .left))
 
 pub read-fault-spec : {M : Type 1} → statement M
 read-fault-spec =
     tie.close
     (tie.spec
     returns
-    shared-slice-read-wide
-    wide-requires
+    read-length-requires
     returns-2
     returns-3
-    add-if4
-    add-if4-2
+    read-end-requires
     returns-4
-    add-is-walk
+    read-vertices-at-requires
     is-walk-requires
     returns-5
     returns-6)

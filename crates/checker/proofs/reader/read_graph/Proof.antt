@@ -16,25 +16,22 @@ returns : tie.Need-returns
 unfolding graphVerdict
 returns c = then-refused _ (c .before .before .header-verdict .ensures) (search needs)
 
-shared-slice-read-wide : tie.Need-shared-slice-read-wide
-shared-slice-read-wide c = omega (arith, header-holds _ (ap (λ (v : Verdict). v .number) (sym (c .before .before .before .header-verdict .ensures)) ∙ c .before .if1 .left) .long)
-
-wide-requires : tie.Need-wide-requires
-wide-requires c κs = search needs
+vertex-count-requires : tie.Need-vertex-count-requires
+vertex-count-requires c κs = header-holds _ (ap (λ (v : Verdict). v .number) (sym (c .before .before .header-verdict .ensures)) ∙ c .if1 .left) .long
 
 vertices-verdict-requires : tie.Need-vertices-verdict-requires
-vertices-verdict-requires c κs = omega (arith, header-holds _ (ap (λ (v : Verdict). v .number) (sym (c .before .before .before .before .header-verdict .ensures)) ∙ c .before .before .if1 .left) .few-vertices)
+vertices-verdict-requires c κs = omega (arith, header-holds _ (ap (λ (v : Verdict). v .number) (sym (c .before .before .before .header-verdict .ensures)) ∙ c .before .if1 .left) .few-vertices)
 
 returns-2 : tie.Need-returns-2
 unfolding graphVerdict
-returns-2 c = then-passed (c .before .before .before .before .before .before .before .header-verdict .ensures) (search needs) (then-refused _ (counted _ _ (c .before .before .vertices-verdict .ensures) (c .before .before .before .wide .ensures .0)) (search needs))
+returns-2 c = then-passed (c .before .before .before .before .before .before .header-verdict .ensures) (search needs) (then-refused _ (counted _ _ (c .before .before .vertices-verdict .ensures) (c .before .before .before .vertex-count .ensures .0)) (search needs))
 
 arcs-then-reads-requires : tie.Need-arcs-then-reads-requires
-arcs-then-reads-requires c κs = (header-holds _ (ap (λ (v : Verdict). v .number) (sym (c .before .before .before .before .before .before .before .header-verdict .ensures)) ∙ c .before .before .before .before .before .if1 .left), (search needs))
+arcs-then-reads-requires c κs = (header-holds _ (ap (λ (v : Verdict). v .number) (sym (c .before .before .before .before .before .before .header-verdict .ensures)) ∙ c .before .before .before .before .if1 .left), (search needs))
 
 returns-3 : tie.Need-returns-3
 unfolding graphVerdict
-returns-3 c = then-passed (c .before .before .before .before .before .before .before .before .header-verdict .ensures) (search needs) (then-passed (counted _ _ (c .before .before .before .vertices-verdict .ensures) (c .before .before .before .before .wide .ensures .0)) (search needs) (c .arcs-then-reads .ensures))
+returns-3 c = then-passed (c .before .before .before .before .before .before .before .header-verdict .ensures) (search needs) (then-passed (counted _ _ (c .before .before .before .vertices-verdict .ensures) (c .before .before .before .before .vertex-count .ensures .0)) (search needs) (c .arcs-then-reads .ensures))
 
 pub read-graph-spec : {M : Type 1} → statement M
 read-graph-spec =
@@ -42,8 +39,7 @@ read-graph-spec =
     (tie.spec
     header-verdict-requires
     returns
-    shared-slice-read-wide
-    wide-requires
+    vertex-count-requires
     vertices-verdict-requires
     returns-2
     arcs-then-reads-requires

@@ -27,17 +27,8 @@ new-requires c κs = search needs
 returns : tie.Need-returns Inv-loop μ-loop
 returns c = c .new .ensures ∙ reads-stop _ _ _ _ _ (c .before .before .before .before .loop .inv) (search needs) (c .before .before .read-fault .ensures) (search needs)
 
-add-at : tie.Need-add-at Inv-loop μ-loop
-add-at c = omega (arith, read-holds _ _ (sym (c .before .read-fault .ensures) ∙ c .if1 .left))
-
-shared-slice-read-wide : tie.Need-shared-slice-read-wide Inv-loop μ-loop
-shared-slice-read-wide c = omega (arith, read-holds _ _ (sym (c .before .before .read-fault .ensures) ∙ c .before .if1 .left))
-
-wide-requires : tie.Need-wide-requires Inv-loop μ-loop
-wide-requires c κs = search needs
-
-add-at-2 : tie.Need-add-at-2 Inv-loop μ-loop
-add-at-2 c = omega (arith, read-holds _ _ (sym (c .before .before .before .read-fault .ensures) ∙ c .before .before .if1 .left))
+read-end-requires : tie.Need-read-end-requires Inv-loop μ-loop
+read-end-requires c κs = omega (arith, read-holds _ _ (sym (c .before .read-fault .ensures) ∙ c .if1 .left))
 
 add-k : tie.Need-add-k Inv-loop μ-loop
 add-k c = search needs
@@ -46,7 +37,7 @@ loop-less : tie.Need-loop-less Inv-loop μ-loop
 loop-less c = search needs
 
 loop-again : tie.Need-loop-again Inv-loop μ-loop
-loop-again c = reads-turn _ _ _ _ _ (c .before .before .before .before .before .loop .inv) (search needs) (c .before .before .before .read-fault .ensures) _ (search needs) (search needs)
+loop-again c = reads-turn _ _ _ _ _ (c .before .before .before .before .loop .inv) (search needs) (c .before .before .read-fault .ensures) _ (search needs) (c .read-end .ensures)
 
 new-requires-2 : tie.Need-new-requires-2 Inv-loop μ-loop
 new-requires-2 c κs = search needs
@@ -70,10 +61,7 @@ reads-verdict-spec =
     read-fault-requires
     new-requires
     returns
-    add-at
-    shared-slice-read-wide
-    wide-requires
-    add-at-2
+    read-end-requires
     add-k
     loop-less
     loop-again

@@ -20,17 +20,14 @@ loop-holds c = (search needs, scan-begins _ _ _)
 vertex-fault-requires : tie.Need-vertex-fault-requires Inv-loop μ-loop
 vertex-fault-requires c κs = search needs
 
-mul-new : tie.Need-mul-new Inv-loop μ-loop
-mul-new c = search needs
-
-add-new : tie.Need-add-new Inv-loop μ-loop
-add-new c = search needs
+vertex-at-requires : tie.Need-vertex-at-requires Inv-loop μ-loop
+vertex-at-requires c κs = search needs
 
 new-requires : tie.Need-new-requires Inv-loop μ-loop
 new-requires c κs = search needs
 
 returns : tie.Need-returns Inv-loop μ-loop
-returns c = c .new .ensures ∙ scan-stops _ _ _ (c .before .before .before .before .loop .v) _ _ (search needs) (search needs) (search needs) (search needs) (search needs)
+returns c = c .new .ensures ∙ scan-stops _ _ _ (c .before .before .before .before .before .loop .v) _ _ (search needs) (search needs) (search needs) (search needs) (search needs)
 
 add-v : tie.Need-add-v Inv-loop μ-loop
 add-v c = search needs
@@ -55,8 +52,7 @@ vertices-verdict-spec =
     μ-loop
     loop-holds
     vertex-fault-requires
-    mul-new
-    add-new
+    vertex-at-requires
     new-requires
     returns
     add-v

@@ -1,7 +1,6 @@
 -- `forms::arcs::arcs_below` meets its contract: no more arcs were passed than have a tail below u.
 use borrow.Author.Needs.{needs}
 use Prim.Native.Nat.{_≤_, _-_}
-use native.Mathlib.Omega.{arith}
 use Rattle.forms.specs.GraphOf.{arcsOf}
 use Rattle.forms.specs.ArcTable.{tailsBelow}
 use Rattle.forms.proofs.ArcLaws.{below-inside, below-turns, below-stops, below-ends}
@@ -9,34 +8,19 @@ use Rattle.forms.proofs.arcs.arcs_below.Statement.{statement}
 use Rattle.forms.proofs.arcs.arcs_below.Tie as tie
 
 abbrev Inv-loop : tie.InvT-loop
-Inv-loop s n count u from base a₀ a = a ≤ tailsBelow (arcsOf s) u
+Inv-loop s n count u from a₀ a = a ≤ tailsBelow (arcsOf s) u
 
 abbrev μ-loop : tie.MeasureT-loop
-μ-loop s n count u from base a₀ a = count - a
-
-mul-base : tie.Need-mul-base Inv-loop μ-loop
-mul-base c = search needs
-
-add-base : tie.Need-add-base Inv-loop μ-loop
-add-base c = search needs
+μ-loop s n count u from a₀ a = count - a
 
 loop-holds : tie.Need-loop-holds Inv-loop μ-loop
 loop-holds c = search needs
 
-mul-wide : tie.Need-mul-wide Inv-loop μ-loop
-mul-wide c = search needs
-
-add-wide : tie.Need-add-wide Inv-loop μ-loop
-add-wide c = search needs
-
-shared-slice-read-wide : tie.Need-shared-slice-read-wide Inv-loop μ-loop
-shared-slice-read-wide c = omega (arith, below-inside _ _ _ _ _ (c .before .before .before .before .pre .0) (c .before .before .loop .inv) (search needs))
-
-wide-requires : tie.Need-wide-requires Inv-loop μ-loop
-wide-requires c κs = search needs
+arc-tail-requires : tie.Need-arc-tail-requires Inv-loop μ-loop
+arc-tail-requires c κs = (search needs, below-inside _ _ _ _ _ (c .before .before .before .pre .0) (c .before .loop .inv) (search needs))
 
 returns : tie.Need-returns Inv-loop μ-loop
-returns c = below-stops _ _ _ _ _ (c .before .before .before .before .before .before .pre .0) (c .before .before .before .before .loop .inv) (c .before .wide .ensures .0) (search needs) (search needs)
+returns c = below-stops _ _ _ _ _ (c .before .before .before .before .before .pre .0) (c .before .before .before .loop .inv) (c .before .arc-tail .ensures .0) (search needs)
 
 add-a : tie.Need-add-a Inv-loop μ-loop
 add-a c = search needs
@@ -45,7 +29,7 @@ loop-less : tie.Need-loop-less Inv-loop μ-loop
 loop-less c = search needs
 
 loop-again : tie.Need-loop-again Inv-loop μ-loop
-loop-again c = below-turns _ _ _ _ _ (c .before .before .before .before .before .before .pre .0) (c .before .before .before .before .loop .inv) (c .before .wide .ensures .0) (search needs) (search needs) (search needs)
+loop-again c = below-turns _ _ _ _ _ (c .before .before .before .before .before .pre .0) (c .before .before .before .loop .inv) (c .before .arc-tail .ensures .0) (search needs) (search needs)
 
 returns-2 : tie.Need-returns-2 Inv-loop μ-loop
 returns-2 c = below-ends _ _ _ _ _ (c .before .before .before .pre .0) (c .before .loop .inv) (search needs)
@@ -56,13 +40,8 @@ arcs-below-spec =
     (tie.spec
     Inv-loop
     μ-loop
-    mul-base
-    add-base
     loop-holds
-    mul-wide
-    add-wide
-    shared-slice-read-wide
-    wide-requires
+    arc-tail-requires
     returns
     add-a
     loop-less

@@ -1,11 +1,10 @@
 -- `forms::arcs::find_arc` meets its contract: what is found among all arcs is what is found from arc a on.
 use borrow.Author.Needs.{needs}
 use Prim.Native.Nat.{_≤_, _<_, _-_, _+_}
-use native.Mathlib.Omega.{arith}
 use mathlib.Core.Path.{_≡_, sym, _∙_}
 use lib.ListN.{getD}
 use Rattle.forms.specs.Limits.{maxVertices}
-use Rattle.forms.specs.GraphForm.{arcCount, arcAt}
+use Rattle.forms.specs.GraphForm.{vertexCount, arcCount}
 use Rattle.forms.specs.GraphOf.{arcsOf}
 use Rattle.forms.specs.ArcTable.{ArcTable, arcNumber}
 use Rattle.forms.proofs.ArcLaws.{foundFrom, find-inside, find-begins, find-turns, find-stops, find-ends}
@@ -13,23 +12,14 @@ use Rattle.forms.proofs.arcs.find_arc.Statement.{statement}
 use Rattle.forms.proofs.arcs.find_arc.Tie as tie
 
 abbrev Inv-loop : tie.InvT-loop
-Inv-loop s first u v base end a₀ a =
-    ArcTable s first × (u < maxVertices) × (base ≡ arcAt s 0) × (end ≡ getD first (u + 1) 0) × (getD first u 0 ≤ a) × ((a ≤ arcCount s) × (arcNumber (arcsOf s) u v ≡ foundFrom s u v a))
+Inv-loop s first u v n end a₀ a =
+    ArcTable s first × (u < maxVertices) × (n ≡ vertexCount s) × (end ≡ getD first (u + 1) 0) × (getD first u 0 ≤ a) × ((a ≤ arcCount s) × (arcNumber (arcsOf s) u v ≡ foundFrom s u v a))
 
 abbrev μ-loop : tie.MeasureT-loop
-μ-loop s first u v base end a₀ a = end - a
+μ-loop s first u v n end a₀ a = end - a
 
-shared-slice-read-wide : tie.Need-shared-slice-read-wide Inv-loop μ-loop
-shared-slice-read-wide c = search needs
-
-wide-requires : tie.Need-wide-requires Inv-loop μ-loop
-wide-requires c κs = search needs
-
-mul-base : tie.Need-mul-base Inv-loop μ-loop
-mul-base c = search needs
-
-add-base : tie.Need-add-base Inv-loop μ-loop
-add-base c = search needs
+vertex-count-requires : tie.Need-vertex-count-requires Inv-loop μ-loop
+vertex-count-requires c κs = search needs
 
 add-wide16 : tie.Need-add-wide16 Inv-loop μ-loop
 add-wide16 c = search needs
@@ -53,25 +43,13 @@ wide16-requires-2 : tie.Need-wide16-requires-2 Inv-loop μ-loop
 wide16-requires-2 c κs = search needs
 
 loop-holds : tie.Need-loop-holds Inv-loop μ-loop
-loop-holds c = (c .before .before .before .before .before .before .before .pre .0, (search needs), (search needs), c .before .before .wide16 .ensures .0, (search needs), find-begins _ _ _ (c .before .before .before .before .before .before .before .pre .0) (search needs) _ (c .wide162 .ensures .0))
+loop-holds c = ((search needs), (search needs), (search needs), (search needs), (search needs), find-begins _ _ _ (c .before .before .before .before .before .before .pre .0) (search needs) _ (c .wide162 .ensures .0))
 
-mul-wide : tie.Need-mul-wide Inv-loop μ-loop
-mul-wide c = search needs
-
-add-wide : tie.Need-add-wide Inv-loop μ-loop
-add-wide c = search needs
-
-add-wide-2 : tie.Need-add-wide-2 Inv-loop μ-loop
-add-wide-2 c = search needs
-
-shared-slice-read-wide-2 : tie.Need-shared-slice-read-wide-2 Inv-loop μ-loop
-shared-slice-read-wide-2 c = omega (arith, find-inside _ _ 0 (c .before .before .loop .inv .0) (c .before .before .loop .inv .1) (c .before .before .loop .a) (search needs))
-
-wide-requires-2 : tie.Need-wide-requires-2 Inv-loop μ-loop
-wide-requires-2 c κs = search needs
+arc-head-requires : tie.Need-arc-head-requires Inv-loop μ-loop
+arc-head-requires c κs = (search needs, find-inside _ _ 0 (c .before .loop .inv .0) (c .before .loop .inv .1) (c .before .loop .a) (search needs))
 
 returns : tie.Need-returns Inv-loop μ-loop
-returns c = sym (c .before .before .before .before .loop .inv .5 .1 ∙ find-stops _ _ _ (c .before .before .before .before .loop .inv .0) (search needs) _ (search needs) (search needs) (c .before .wide2 .ensures .0) (search needs) (search needs))
+returns c = let i = c .before .before .before .loop .inv in sym (i .5 .1 ∙ find-stops _ _ _ (i .0) (search needs) _ (search needs) (search needs) (c .before .arc-head .ensures .0) (search needs))
 
 add-a : tie.Need-add-a Inv-loop μ-loop
 add-a c = search needs
@@ -80,7 +58,7 @@ loop-less : tie.Need-loop-less Inv-loop μ-loop
 loop-less c = search needs
 
 loop-again : tie.Need-loop-again Inv-loop μ-loop
-loop-again c = let i = c .before .before .before .before .loop .inv in let n = find-turns _ _ _ (i .0) (i .1) _ (i .4) (search needs) (c .before .wide2 .ensures .0) (search needs) (c .if1 .left) in (i .0, i .1, i .2, i .3, (search needs), (n .0, i .5 .1 ∙ n .1))
+loop-again c = let i = c .before .before .before .loop .inv in let n = find-turns _ _ _ (i .0) (i .1) _ (i .4) (search needs) (c .before .arc-head .ensures .0) (c .if1 .left) in (i .0, i .1, i .2, i .3, (search needs), (n .0, i .5 .1 ∙ n .1))
 
 returns-2 : tie.Need-returns-2 Inv-loop μ-loop
 returns-2 c = sym (c .before .loop .inv .5 .1 ∙ find-ends _ _ _ (c .before .loop .inv .0) (search needs) _ (search needs) (search needs))
@@ -91,10 +69,7 @@ find-arc-spec =
     (tie.spec
     Inv-loop
     μ-loop
-    shared-slice-read-wide
-    wide-requires
-    mul-base
-    add-base
+    vertex-count-requires
     add-wide16
     mul-wide16
     element-copy-out-wide16
@@ -103,11 +78,7 @@ find-arc-spec =
     element-copy-out-wide16-2
     wide16-requires-2
     loop-holds
-    mul-wide
-    add-wide
-    add-wide-2
-    shared-slice-read-wide-2
-    wide-requires-2
+    arc-head-requires
     returns
     add-a
     loop-less

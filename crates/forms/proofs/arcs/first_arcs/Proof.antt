@@ -17,14 +17,11 @@ Inv-loop s n count first₀ below₀ u₀ first below u =
 abbrev μ-loop : tie.MeasureT-loop
 μ-loop s n count first₀ below₀ u₀ first below u = 65 - u
 
-shared-slice-read-wide : tie.Need-shared-slice-read-wide Inv-loop μ-loop
-shared-slice-read-wide c = search needs
+vertex-count-requires : tie.Need-vertex-count-requires Inv-loop μ-loop
+vertex-count-requires c κs = search needs
 
-wide-requires : tie.Need-wide-requires Inv-loop μ-loop
-wide-requires c κs = search needs
-
-be16-requires : tie.Need-be16-requires Inv-loop μ-loop
-be16-requires c κs = search needs
+arc-count-requires : tie.Need-arc-count-requires Inv-loop μ-loop
+arc-count-requires c κs = search needs
 
 loop-holds : tie.Need-loop-holds Inv-loop μ-loop
 loop-holds c = (record { right = (search needs); vertices = (search needs); arcs = (search needs) }, (search needs), (search needs), (search needs), fill-none)
@@ -59,9 +56,8 @@ first-arcs-spec =
     (tie.spec
     Inv-loop
     μ-loop
-    shared-slice-read-wide
-    wide-requires
-    be16-requires
+    vertex-count-requires
+    arc-count-requires
     loop-holds
     arcs-below-requires
     cast-first

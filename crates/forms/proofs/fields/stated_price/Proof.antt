@@ -1,10 +1,10 @@
--- `checker::check::stated_price` puts the two halves of the price together.
+-- `forms::fields::stated_price` puts the two halves of the price together.
 use Rattle.forms.specs.Bytes.{be64}
 use mathlib.Core.Path.{ap₂}
 use Prim.Native.Nat.{_+_, _*_}
 use borrow.Author.Needs.{needs}
-use Rattle.checker.proofs.check.stated_price.Statement.{statement}
-use Rattle.checker.proofs.check.stated_price.Tie as tie
+use Rattle.forms.proofs.fields.stated_price.Statement.{statement}
+use Rattle.forms.proofs.fields.stated_price.Tie as tie
 
 be32-requires : tie.Need-be32-requires
 be32-requires c κs = search needs
