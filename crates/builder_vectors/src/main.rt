@@ -5,7 +5,7 @@
 use builder::build::build;
 use checker::Answer;
 use checker::check::check;
-use checker::check::stated_price;
+use forms::fields::stated_price;
 use records::Next;
 
 // 1 for any count but 0.

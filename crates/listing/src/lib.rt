@@ -1,15 +1,15 @@
 // The listing that the programs print, as bytes. The definitions that the contracts cite are in specs/, in document 01's words.
 mod text;
 
-use checker::Answer;
-use checker::Graph;
 use checker::check::check;
 use checker::check::hand_out;
-use checker::check::stated_price;
 use checker::reader::read_graph;
-use forms::bytes::be16;
-use forms::bytes::be32;
-use forms::bytes::wide;
+use forms::fields::first_path_at;
+use forms::fields::path_count;
+use forms::fields::path_end;
+use forms::fields::path_weight;
+use forms::fields::stated_price;
+use forms::fields::vertex_count;
 use text::put_bound_line;
 use text::put_pair_line;
 use text::put_path_line;
@@ -33,14 +33,14 @@ fn put_paths(graph: &[u8], answer: &[u8], out: &mut [u8], at: usize) -> usize
     requires { ⌜ Room (now out) at (pathLines (now graph) (now answer) (pathCount (now answer)) 0) ⌝ }
     ensures { λ r. ⌜ Puts (now (out .entry)) at (pathLines (now (graph .entry)) (now (answer .entry)) (pathCount (now (answer .entry))) 0) (now (out .exit)) r ⌝ }
 {
-    let count = be16(answer, Answer::AT_PATHS);
-    let mut path = Answer::HEADER + Answer::MARKS * wide(graph[Graph::AT_VERTICES]);
+    let count = path_count(answer);
+    let mut path = first_path_at(vertex_count(graph));
     let mut end = at;
     let mut k = 0;
     while k < count {
-        let weight = be32(answer, path);
+        let weight = path_weight(answer, path);
         end = put_path_line(out, end, weight, hand_out(graph, answer, k));
-        path = path + Answer::PATH + wide(answer[path + Answer::WEIGHT]);
+        path = path_end(answer, path);
         k += 1;
     }
     end
@@ -52,7 +52,7 @@ fn put_cover(graph: &[u8], answer: &[u8], out: &mut [u8]) -> usize
     requires { ⌜ room ≤ length (now out) ⌝ }
     ensures { λ r. ⌜ Puts (now (out .entry)) 0 (coverListing (now (graph .entry)) (now (answer .entry))) (now (out .exit)) r ⌝ }
 {
-    let count = be16(answer, Answer::AT_PATHS);
+    let count = path_count(answer);
     let price = stated_price(answer);
     let first = put_pair_line(out, 0, b"cover ", count, price);
     let last = put_paths(graph, answer, out, first);

@@ -16,14 +16,14 @@ use Rattle.listing.proofs.put_cover.Tie as tie
 abbrev begun : tie.After-put-pair-line-arg2 → tie.Start
 begun c = c .before .before .before .before .before .before .before
 
-abbrev counted : tie.After-put-pair-line-arg2 → tie.After-be16
+abbrev counted : tie.After-put-pair-line-arg2 → tie.After-path-count
 counted c = c .before .before .before
 
 abbrev priced : tie.After-put-pair-line-arg2 → tie.After-stated-price
 priced c = c .before .before
 
 abbrev firstLine : tie.After-put-pair-line-arg2 → List ℕ
-firstLine c = pairLine coverWord (counted c .be16 .result) (priced c .stated-price .result)
+firstLine c = pairLine coverWord (counted c .path-count .result) (priced c .stated-price .result)
 
 abbrev paths : tie.After-put-pair-line-arg2 → List ℕ
 paths c = pathLines (now (begun c .args .graph)) (now (begun c .args .answer)) (pathCount (now (begun c .args .answer))) 0
@@ -36,8 +36,8 @@ Left c out at rest = Still (now (begun c .args .out)) 0 (coverListing (now (begu
 
 before-all : (c : tie.After-put-pair-line-arg2) → Left c (now (begun c .args .out)) 0 (firstLine c ++ (paths c ++ lastLine c))
 before-all c =
-    listing-begins (now (begun c .args .graph)) (now (begun c .args .answer)) (now (begun c .args .out)) (counted c .be16 .result) (priced c .stated-price .result)
-    (begun c .pre .0) (begun c .pre .1) (counted c .be16 .ensures .0) (priced c .stated-price .ensures)
+    listing-begins (now (begun c .args .graph)) (now (begun c .args .answer)) (now (begun c .args .out)) (counted c .path-count .result) (priced c .stated-price .result)
+    (begun c .pre .0) (begun c .pre .1) (counted c .path-count .ensures .0) (priced c .stated-price .ensures)
 
 after-first : (c : tie.After-put-pair-line) → Left (c .before) (c .put-pair-line .last .0) (c .put-pair-line .result) (paths (c .before) ++ lastLine (c .before))
 after-first c = still-next (c .put-pair-line .ensures) (before-all (c .before))
@@ -48,8 +48,8 @@ first c = c .before .before .before .before
 after-paths : (c : tie.After-put-paths) → Left (first c .before) (c .put-paths .last .1 .1 .0) (c .put-paths .result) (lastLine (first c .before))
 after-paths c = still-next (c .put-paths .ensures) (after-first (first c))
 
-be16-requires : tie.Need-be16-requires
-be16-requires c κs = omega (arith, answer-long _ _ (c .before .before .before .pre .0))
+path-count-requires : tie.Need-path-count-requires
+path-count-requires c κs = omega (arith, answer-long _ _ (c .before .before .before .pre .0))
 
 stated-price-requires : tie.Need-stated-price-requires
 stated-price-requires c κs = omega (arith, answer-long _ _ (c .before .before .before .before .pre .0))
@@ -78,7 +78,7 @@ pub put-cover-spec : {M : Type 1} → statement M
 put-cover-spec =
     tie.close
     (tie.spec
-    be16-requires
+    path-count-requires
     stated-price-requires
     slice-aggregate-put-pair-line
     put-pair-line-requires

@@ -1,10 +1,11 @@
 -- `listing::put_paths` meets its contract: at each turn the lines of the remaining paths are still to be stored. The measure is their number.
 -- Assumes nothing.
-use Prim.Native.Nat.{_+_, _-_, _*_}
+use Prim.Native.Nat.{_-_}
 use native.Mathlib.Omega.{arith}
-use mathlib.Core.Path.{ap}
+use mathlib.Core.Path.{ap, _∙_}
 use denote.Ref.{now}
 use borrow.Author.Needs.{needs}
+use Rattle.forms.specs.AnswerForm.{firstPathAt}
 use Rattle.listing.specs.Text.{pathLine}
 use Rattle.listing.proofs.Storing.{still-room}
 use Rattle.listing.proofs.Accepted.{graph-long, answer-long}
@@ -18,28 +19,22 @@ Inv-loop graph answer out₀ at count path₀ end₀ k₀ out path end k = Paths
 abbrev μ-loop : tie.MeasureT-loop
 μ-loop graph answer out₀ at count path₀ end₀ k₀ out path end k = count - k
 
-be16-requires : tie.Need-be16-requires Inv-loop μ-loop
-be16-requires c κs = omega (arith, answer-long _ _ (c .before .before .before .pre .0))
+path-count-requires : tie.Need-path-count-requires Inv-loop μ-loop
+path-count-requires c κs = omega (arith, answer-long _ _ (c .before .before .before .pre .0))
 
-shared-slice-read-wide : tie.Need-shared-slice-read-wide Inv-loop μ-loop
-shared-slice-read-wide c = omega (arith, graph-long _ _ (c .before .before .before .before .before .pre .0))
+vertex-count-requires : tie.Need-vertex-count-requires Inv-loop μ-loop
+vertex-count-requires c κs = graph-long _ _ (c .before .before .before .before .pre .0)
 
-wide-requires : tie.Need-wide-requires Inv-loop μ-loop
-wide-requires c κs = search needs
-
-mul-path : tie.Need-mul-path Inv-loop μ-loop
-mul-path c = omega arith
-
-add-path : tie.Need-add-path Inv-loop μ-loop
-add-path c = omega arith
+first-path-at-requires : tie.Need-first-path-at-requires Inv-loop μ-loop
+first-path-at-requires c κs = omega arith
 
 loop-holds : tie.Need-loop-holds Inv-loop μ-loop
 loop-holds c =
     let s = c .before .before .before .before .before .before in
-    paths-start (s .pre .0) (c .before .before .be16 .ensures .0) (ap (λ v. 15 + 8 * v) (c .wide .ensures .0)) (s .pre .1)
+    paths-start (s .pre .0) (c .before .before .path-count .ensures .0) (c .first-path-at .ensures ∙ ap firstPathAt (c .before .vertex-count .ensures .0)) (s .pre .1)
 
-be32-requires : tie.Need-be32-requires Inv-loop μ-loop
-be32-requires c κs = omega (arith, path-inside (c .loop-test .taken) (c .before .loop .inv))
+path-weight-requires : tie.Need-path-weight-requires Inv-loop μ-loop
+path-weight-requires c κs = omega (arith, path-inside (c .loop-test .taken) (c .before .loop .inv))
 
 hand-out-requires : tie.Need-hand-out-requires Inv-loop μ-loop
 hand-out-requires c κs = search needs
@@ -47,31 +42,13 @@ hand-out-requires c κs = search needs
 put-path-line-requires : tie.Need-put-path-line-requires Inv-loop μ-loop
 put-path-line-requires c κs =
     let l = c .before .before .before in
-    still-room (pathLine (c .before .before .be32 .result) (now (c .hand-out .result))) _
-    (line-next (l .loop-test .taken) (l .before .loop .inv) _ _ (c .before .before .be32 .ensures .0) (c .hand-out .ensures))
+    still-room (pathLine (c .before .before .path-weight .result) (now (c .hand-out .result))) _
+    (line-next (l .loop-test .taken) (l .before .loop .inv) _ _ (c .before .before .path-weight .ensures .0) (c .hand-out .ensures))
 
-add-path-2 : tie.Need-add-path-2 Inv-loop μ-loop
-add-path-2 c =
+path-end-requires : tie.Need-path-end-requires Inv-loop μ-loop
+path-end-requires c κs =
     let l = c .before .before .before .before .before .before in
-    omega (arith, path-inside (l .loop-test .taken) (l .before .loop .inv), l)
-
-add-wide : tie.Need-add-wide Inv-loop μ-loop
-add-wide c =
-    let l = c .before .before .before .before .before .before in
-    omega (arith, path-inside (l .loop-test .taken) (l .before .loop .inv), l)
-
-shared-slice-read-wide-2 : tie.Need-shared-slice-read-wide-2 Inv-loop μ-loop
-shared-slice-read-wide-2 c =
-    let l = c .before .before .before .before .before .before .before in
     omega (arith, path-inside (l .loop-test .taken) (l .before .loop .inv))
-
-wide-requires-2 : tie.Need-wide-requires-2 Inv-loop μ-loop
-wide-requires-2 c κs = search needs
-
-add-path-3 : tie.Need-add-path-3 Inv-loop μ-loop
-add-path-3 c =
-    let l = c .before .before .before .before .before .before .before .before in
-    omega (arith, path-inside (l .loop-test .taken) (l .before .loop .inv), c .wide2 .ensures .0, l)
 
 add-k : tie.Need-add-k Inv-loop μ-loop
 add-k c = omega arith
@@ -81,9 +58,9 @@ loop-less c = omega arith
 
 loop-again : tie.Need-loop-again Inv-loop μ-loop
 loop-again c =
-    let l = c .before .before .before .before .before .before .before .before in
-    paths-turn (l .loop-test .taken) (l .before .loop .inv) _ _ _ (c .before .before .before .before .before .before .before .be32 .ensures .0) (c .before .before .before .before .before .hand-out .ensures)
-    (ap (λ v. l .before .loop .path + 5 + v) (c .wide2 .ensures .0)) (c .before .before .before .before .put-path-line .ensures)
+    let l = c .before .before .before .before .before .before .before in
+    paths-turn (l .loop-test .taken) (l .before .loop .inv) _ _ _ (c .before .before .before .before .before .before .path-weight .ensures .0) (c .before .before .before .before .hand-out .ensures)
+    (c .path-end .ensures) (c .before .before .before .put-path-line .ensures)
 
 same-length : tie.Need-same-length Inv-loop μ-loop
 same-length c = c .before .loop .inv .left .long
@@ -97,20 +74,14 @@ put-paths-spec =
     (tie.spec
     Inv-loop
     μ-loop
-    be16-requires
-    shared-slice-read-wide
-    wide-requires
-    mul-path
-    add-path
+    path-count-requires
+    vertex-count-requires
+    first-path-at-requires
     loop-holds
-    be32-requires
+    path-weight-requires
     hand-out-requires
     put-path-line-requires
-    add-path-2
-    add-wide
-    shared-slice-read-wide-2
-    wide-requires-2
-    add-path-3
+    path-end-requires
     add-k
     loop-less
     loop-again
