@@ -1,4 +1,4 @@
-// The fields of the two forms and the places of their records, one function each: outside this crate no code names an offset or a record's length.
+// The fields of the two forms and the places of their records, one function each: a version that moves fields changes them here.
 use crate::Answer;
 use crate::Graph;
 use crate::bytes::be16;
