@@ -179,6 +179,12 @@ pub M-reads : M .reads ≡ (0 ∷ 1 ∷ 2 ∷ 4 ∷ []) ∷ (1 ∷ 2 ∷ 3 ∷ [
 unfolding joinAt
 M-reads = refl
 
+-- so file order does not give the prepared reads of L: the first ends in 4 and not in 3
+pub M-not-prepared : M .reads ≢ prepare (L .reads)
+unfolding prepare longest joinAt overlap
+M-not-prepared e =
+    differ-first 4 3 [] [] (λ d. omega arith) (tail-eq-of-cons-eq (tail-eq-of-cons-eq (tail-eq-of-cons-eq (head-eq-of-cons-eq e))))
+
 abbrev pub M-cover : List Weighted
 M-cover = once (0 ∷ 1 ∷ 2 ∷ 3 ∷ []) ∷ once (0 ∷ 1 ∷ 2 ∷ 4 ∷ []) ∷ []
 
