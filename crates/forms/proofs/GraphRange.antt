@@ -23,7 +23,7 @@ vertex-demands-low : (k : ℕ) (xs : List Vertex) → All (λ v. v .demand ≤ m
 vertex-demands-low k [] h = tt
 vertex-demands-low k (x ∷ xs) h = (h .0, vertex-demands-low (suc k) xs (h .1))
 
-module _ (G : Graph ℤ) (w : Within G) where
+module _ (s : List ℕ) (G : Graph ℤ) (w : Within s G) where
   -- "demand of a vertex or arc 0..1,000,000"
   pub demands-low : All (λ (a : Ask). a .demand ≤ maxDemand) (asks G)
   demands-low =

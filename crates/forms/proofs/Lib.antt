@@ -1,4 +1,6 @@
 -- The laws that the proofs of the code cite, and facts of a form that reads.
+pub mod LayoutLaws
+pub mod Filling
 pub mod Scan
 pub mod ThenLaws
 pub mod PartLaws
