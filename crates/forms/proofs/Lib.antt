@@ -11,4 +11,5 @@ pub mod WalkLaws
 pub mod RightLaws
 pub mod GraphFacts
 pub mod GraphRange
+pub mod RoleLaws
 pub mod Lookup

@@ -9,4 +9,5 @@ pub mod AnswerFaults
 pub mod BuildFaults
 pub mod GraphReads
 pub mod ArcTable
+pub mod Roles
 pub mod Values

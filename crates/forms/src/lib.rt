@@ -5,6 +5,7 @@ pub mod bytes;
 pub mod fields;
 pub mod layout;
 pub mod marks;
+pub mod roles;
 
 ghost use mathlib.Core.Path.{_≡_};
 ghost use mathlib.Core.List.{List};
