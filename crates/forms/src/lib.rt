@@ -7,15 +7,24 @@ pub mod layout;
 pub mod marks;
 pub mod roles;
 
+use crate::arcs::first_arcs;
+use crate::fields::arc_count;
+use crate::fields::opening_price;
+use crate::fields::path_count;
+use crate::fields::read_count;
+use crate::fields::stated_price;
+use crate::fields::vertex_count;
 ghost use mathlib.Core.Path.{_≡_};
 ghost use mathlib.Core.List.{List};
-ghost use Prim.Native.Nat.{ℕ};
+ghost use Prim.Native.Nat.{ℕ, _≤_};
+ghost use lib.ListN.{length};
 ghost use Rattle.forms.specs.GraphFaults.{refusal};
 ghost use Rattle.forms.specs.Limits.{maxOpening, maxCost, maxDemand, minReadLength, markLimit, roomVertices, roomArcs, roomReads, roomPaths};
 ghost use Rattle.forms.specs.Layout.{versionAt, newest, longestGraph};
-ghost use Rattle.forms.specs.GraphForm.{vertexCountAt, arcLength};
-ghost use Rattle.forms.specs.AnswerForm.{answerVersionAt, pathCountAt, priceAt, markPartLength};
-ghost use Rattle.forms.specs.Values.{emptyHeader, emptyGraph, emptyAnswer};
+ghost use Rattle.forms.specs.GraphForm.{headerLength, vertexCountAt, arcLength};
+ghost use Rattle.forms.specs.AnswerForm.{answerVersionAt, pathCountAt, priceAt, answerHeaderLength, markPartLength};
+ghost use Rattle.forms.specs.GraphReads.{ArcsRight};
+ghost use Rattle.forms.specs.Values.{emptyHeader, headerOf, emptyGraph, GraphIs, emptyAnswer, answerOf};
 
 // What a call answers where an input may be turned down: the refusal's number and its place; both are 0 where nothing is refused.
 pub struct Verdict {
@@ -56,6 +65,19 @@ impl Header {
             reads: 0,
             opening: 0,
         }
+    }
+
+    // The header of a graph form.
+    pub fn of(s: &[u8]) -> Header
+        requires { ⌜ headerLength (now s) ≤ length (now s) ⌝ }
+        ensures { λ r. ⌜ r ≡ headerOf (now (s .entry)) ⌝ }
+    {
+        let mut header = Header::empty();
+        header.vertices = vertex_count(s);
+        header.arcs = arc_count(s);
+        header.reads = read_count(s);
+        header.opening = opening_price(s);
+        header
     }
 }
 
@@ -111,6 +133,19 @@ impl Graph {
         let first = [0; Graph::ROOM_VERTICES + 1];
         Graph { header, first }
     }
+
+    // The header and the table of first arcs of a graph form.
+    pub fn of(s: &[u8]) -> Graph
+        requires { ⌜ ArcsRight (now s) ⌝ }
+        ensures { λ r. ⌜ GraphIs (now (s .entry)) r ⌝ }
+    {
+        let mut graph = Graph::empty();
+        let header = Header::of(s);
+        let first = first_arcs(s);
+        graph.header = header;
+        graph.first = first;
+        graph
+    }
 }
 
 // The values of an answer form's header.
@@ -148,5 +183,16 @@ impl Answer {
         ensures places { λ r. do ⌜ ((← ⟦Answer::AT_VERSION⟧ .entry) ≡ answerVersionAt) × ((← ⟦Answer::AT_PATHS⟧ .entry) ≡ pathCountAt) × ((← ⟦Answer::AT_PRICE⟧ .entry) ≡ priceAt) × ((← ⟦Answer::MARK_PART⟧ .entry) ≡ markPartLength) ⌝ }
     {
         Answer { paths: 0, price: 0 }
+    }
+
+    // The header of an answer form to the graph s.
+    pub fn of(s: &[u8], t: &[u8]) -> Answer
+        requires { ⌜ answerHeaderLength (now s) ≤ length (now t) ⌝ }
+        ensures { λ r. ⌜ r ≡ answerOf (now (s .entry)) (now (t .entry)) ⌝ }
+    {
+        let mut answer = Answer::empty();
+        answer.paths = path_count(t);
+        answer.price = stated_price(s, t);
+        answer
     }
 }
