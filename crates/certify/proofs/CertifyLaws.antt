@@ -15,7 +15,7 @@ use Rattle.mathematics.specs.Bound.{startSlack, endSlack, vertexSlack, arcSlack
 use Rattle.forms.specs.Limits.{markLimit}
 use Rattle.forms.specs.GraphForm.{vertexCount, arcCount, openingPrice, flags, vertexDemand, arcAt, arcTail, arcHead, arcCost, arcDemand}
 use Rattle.forms.specs.GraphOf.{graphOf, arcOf}
-use Rattle.forms.specs.AnswerForm.{signed32, inMarkAt, outMarkAt, marksOf}
+use Rattle.forms.specs.AnswerForm.{signed32, inMarkAt, outMarkAt, answerMarks}
 use Rattle.certify.specs.Certify.{vertexUnmet, arcUnmet, readUnmet, vertexSlackFault, arcSlackFault}
 use Rattle.certify.proofs.CertifyLawsSlack.{held-difference, plain-less-held, held-sum-less-held, not-below}
 
@@ -45,22 +45,22 @@ unfolding readUnmet
 read-met met r e = simp e
 
 -- The slacks of a vertex whose marks are held with the limit added, i and o.
-module _ (s t : List ℕ) (v i o : ℕ) (into : signed32 t (inMarkAt v) ≡ subℕ i markLimit) (out : signed32 t (outMarkAt v) ≡ subℕ o markLimit) where
-  start-test : leZ (pos 0) (startSlack whole (graphOf s) (marksOf t) v) ≡ leb i (openingPrice s + markLimit)
-  unfolding graphOf marksOf
+module _ (s t : List ℕ) (v i o : ℕ) (into : signed32 t (inMarkAt s v) ≡ subℕ i markLimit) (out : signed32 t (outMarkAt s v) ≡ subℕ o markLimit) where
+  start-test : leZ (pos 0) (startSlack whole (graphOf s) (answerMarks s t) v) ≡ leb i (openingPrice s + markLimit)
+  unfolding graphOf answerMarks
   start-test =
       ap (λ x. leZ (pos 0) (sub whole (pos (openingPrice s)) x)) into ∙
       (ap (leZ (pos 0)) (plain-less-held (openingPrice s) i markLimit) ∙ not-below (openingPrice s + markLimit) i)
 
-  end-test : leZ (pos 0) (endSlack whole (marksOf t) v) ≡ leb markLimit o
-  unfolding marksOf
+  end-test : leZ (pos 0) (endSlack whole (answerMarks s t) v) ≡ leb markLimit o
+  unfolding answerMarks
   end-test = ap (leZ (pos 0)) out ∙ not-below o markLimit
 
-  pub vertex-difference : vertexSlack whole (marksOf t) v ≡ subℕ i o
-  unfolding marksOf
+  pub vertex-difference : vertexSlack whole (answerMarks s t) v ≡ subℕ i o
+  unfolding answerMarks
   vertex-difference = ap₂ (sub whole) into out ∙ held-difference i o markLimit
 
-  vertex-test : leZ (pos 0) (vertexSlack whole (marksOf t) v) ≡ leb o i
+  vertex-test : leZ (pos 0) (vertexSlack whole (answerMarks s t) v) ≡ leb o i
   vertex-test = ap (leZ (pos 0)) vertex-difference ∙ not-below i o
 
   pub vertex-crossed : i < o → 21 ≡ vertexSlackFault s t v
@@ -78,7 +78,7 @@ module _ (s t : List ℕ) (v i o : ℕ) (into : signed32 t (inMarkAt v) ≡ sub�
 
   pub end-crossed : flags s v / 2 ≡ 1 → o < markLimit → 21 ≡ vertexSlackFault s t v
   unfolding vertexSlackFault
-  end-crossed f h = simp (eq-eqb _ _ f, end-test, lt-leb markLimit o h) (none (cond (eqb (flags s v % 2) 1) (leZ (pos 0) (startSlack whole (graphOf s) (marksOf t) v)) true))
+  end-crossed f h = simp (eq-eqb _ _ f, end-test, lt-leb markLimit o h) (none (cond (eqb (flags s v % 2) 1) (leZ (pos 0) (startSlack whole (graphOf s) (answerMarks s t) v)) true))
     where
       none : (a : Bool) → _≡_ {A = ℕ} 21 (cond (a && false) 0 21)
       none true = refl
@@ -110,9 +110,9 @@ pub head-below : {s : List ℕ} {a v : ℕ} → Reads s → a < arcCount s → v
 head-below {s} {a} r h head = omega (arith, r .arcs .each a h .inside)
 
 -- The slack of an arc: o is its tail's out-mark and i its head's in-mark, with the limit added.
-module _ (s t : List ℕ) (a u v cost i o : ℕ) (read : ArcRead s a u v cost) (into : signed32 t (inMarkAt v) ≡ subℕ i markLimit) (out : signed32 t (outMarkAt u) ≡ subℕ o markLimit) where
-  pub arc-difference : arcSlack whole (marksOf t) (arcOf s a) ≡ subℕ (cost + o) i
-  unfolding marksOf
+module _ (s t : List ℕ) (a u v cost i o : ℕ) (read : ArcRead s a u v cost) (into : signed32 t (inMarkAt s v) ≡ subℕ i markLimit) (out : signed32 t (outMarkAt s u) ≡ subℕ o markLimit) where
+  pub arc-difference : arcSlack whole (answerMarks s t) (arcOf s a) ≡ subℕ (cost + o) i
+  unfolding answerMarks
   arc-difference =
       ap₃ (sym (read .costs)) (ap (λ x. signed32 t (outMarkAt x)) (sym (read .tail)) ∙ out) (ap (λ x. signed32 t (inMarkAt x)) (sym (read .head)) ∙ into)
       ∙ held-sum-less-held cost o i markLimit
@@ -120,7 +120,7 @@ module _ (s t : List ℕ) (a u v cost i o : ℕ) (read : ArcRead s a u v cost) (
       ap₃ : {c c′ : ℕ} {x x′ y y′ : ℤ} → c ≡ c′ → x ≡ x′ → y ≡ y′ → sub whole (pos c +ℤ x) y ≡ sub whole (pos c′ +ℤ x′) y′
       ap₃ p q r = λ j. sub whole (pos (p j) +ℤ q j) (r j)
 
-  arc-test : leZ (pos 0) (arcSlack whole (marksOf t) (arcOf s a)) ≡ leb i (cost + o)
+  arc-test : leZ (pos 0) (arcSlack whole (answerMarks s t) (arcOf s a)) ≡ leb i (cost + o)
   arc-test = ap (leZ (pos 0)) arc-difference ∙ not-below (cost + o) i
 
   pub arc-crossed : cost + o < i → 21 ≡ arcSlackFault s t a

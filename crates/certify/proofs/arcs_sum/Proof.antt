@@ -51,7 +51,7 @@ loop-again : tie.Need-loop-again Inv-loop μ-loop
 loop-again c = (search needs, search needs, sum-turn _ _ _ _ _ (search needs) (search needs) (c .arc-part .ensures))
 
 returns : tie.Need-returns Inv-loop μ-loop
-returns c = sum-end _ _ (c .before .loop .a) _ _ (c .before .loop .inv .2) (omega (arith, c .before .loop .inv .1, c .loop-test .left)) (c .before .before .before .before .before .before .pre .0 .0 .arcs .header .few-arcs)
+returns c = sum-end _ _ (c .before .loop .a) _ _ (c .before .loop .inv .2) (omega (arith, c .before .loop .inv .1, c .loop-test .left)) (c .before .before .before .before .before .before .pre .0 .0 .arcs .header .arcs-room)
 
 pub arcs-sum-spec : {M : Type 1} → statement M
 arcs-sum-spec =
