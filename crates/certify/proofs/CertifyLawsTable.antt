@@ -12,7 +12,7 @@ use Rattle.mathematics.specs.Lists.{All}
 use Rattle.mathematics.proofs.Basics.{all-weaken}
 use Rattle.mathematics.proofs.Linked.{linked-rising}
 use Rattle.forms.specs.Bytes.{part}
-use Rattle.forms.specs.GraphForm.{readCount, firstReadAt, readLength, readVertices, readEnd}
+use Rattle.forms.specs.GraphForm.{readCount, firstReadAt, readLength, readVertices, readEnd, readVerticesAt}
 use Rattle.forms.specs.GraphOf.{graphOf, readsFrom, arcsOf}
 use Rattle.forms.specs.GraphReads.{Reads, ReadRight, ReadsRight}
 use Rattle.reads.specs.ReadTable.{rowsOf, used, ReadHolds, Leaves, TableSized, tableRows, rowLength}
@@ -20,6 +20,7 @@ use Rattle.forms.proofs.GraphFacts.{all-reads, read-length, graph-well-formed}
 use Rattle.reads.proofs.TableLaws.{rising-climbs}
 use Rattle.reads.proofs.TableRows.{used-set, used-rows}
 use Rattle.reads.proofs.DropLaws.{all-set}
+use Rattle.forms.proofs.LayoutLaws.{read-length-room}
 
 -- one byte more of a row
 pub row-turn : (s row : List ℕ) (at i : ℕ) → take i row ≡ part s at i → i < length row → at + i < length s → take (i + 1) (set row i (getD s (at + i) 0)) ≡ part s at (i + 1)
@@ -77,7 +78,7 @@ module _ {s : List ℕ} {rows : List (List ℕ)} {lens : List ℕ} {count at i :
   pub load-next : i < count → ReadRight s at
   load-next h = (rw (load-left h) at (l .right)) .0
 
-  module _ (len : ℕ) (row : List ℕ) (h : i < count) (e : len ≡ readLength s at) {from next : ℕ} (begins : from ≡ at + 1) (ends : next ≡ readEnd s at) (same : take len row ≡ part s from len) (long : length row ≡ rowLength) where
+  module _ (len : ℕ) (row : List ℕ) (h : i < count) (e : len ≡ readLength s at) {from next : ℕ} (begins : from ≡ readVerticesAt s at) (ends : next ≡ readEnd s at) (same : take len row ≡ part s from len) (long : length row ≡ rowLength) where
     room : i < tableRows
     room = omega (arith, l .counted, l .reads .arcs .header .reads-room)
 
@@ -88,7 +89,7 @@ module _ {s : List ℕ} {rows : List (List ℕ)} {lens : List ℕ} {count at i :
         go (yes m) = omega (arith, l .fit k m, getD-set-other lens i k len 0 (λ q. omega arith))
         go (no m) =
             let q : k ≡ i = omega arith in
-            rw (q, getD-set-same lens i len 0 (omega (arith, l .sized .sized, room))) (omega (arith, load-next h .not-long))
+            rw (q, getD-set-same lens i len 0 (omega (arith, l .sized .sized, room))) (omega (arith, load-next h .not-long, read-length-room s))
 
     front : rowsOf (set rows i row) (set lens i len) (i + 1) ≡ rowsOf rows lens i ++ (take len row ∷ [])
     unfolding rowsOf

@@ -29,6 +29,7 @@ use Rattle.forms.specs.GraphReads.{Reads}
 use Rattle.forms.specs.AnswerForm.{answerMarks}
 use Rattle.certify.specs.Certify.{vertexSlackFault, arcSlackFault, NoneBelow, ReadsCounted, vertexPart, arcPart, sumFrom, Sum}
 use Rattle.forms.proofs.GraphFacts.{graph-well-formed}
+use Rattle.forms.specs.Limits.{roomVertices, roomArcs}
 
 -- a number that many times
 times-number : (k n : ℕ) → times whole k (pos n) ≡ pos (k * n)

@@ -118,12 +118,7 @@ pub fn unmet_verdict(
 }
 
 // What is wrong with the slacks of vertex v: a mark is held with the limit added, so each test is one of numbers that are not below 0.
-fn vertex_slack_fault(
-    s: &[u8],
-    roles: &[u8; Graph::ROOM_VERTICES],
-    t: &[u8],
-    v: usize,
-) -> usize
+fn vertex_slack_fault(s: &[u8], roles: &[u8; Graph::ROOM_VERTICES], t: &[u8], v: usize) -> usize
     requires { ⌜ Reads (now s) × Roles (now s) (now roles) × MarksStand (now s) (now t) × (v < vertexCount (now s)) ⌝ }
     ensures { λ r. ⌜ r ≡ vertexSlackFault (now (s .entry)) (now (t .entry)) v ⌝ }
 {
