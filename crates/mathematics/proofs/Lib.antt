@@ -39,4 +39,6 @@ pub mod Lying
 pub mod Duality
 pub mod Lowest
 pub mod Limits
+pub mod Direction
 pub mod Examples
+pub mod DirectionExamples

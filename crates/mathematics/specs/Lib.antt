@@ -8,3 +8,4 @@ pub mod Exists
 pub mod Reach
 pub mod Range
 pub mod Links
+pub mod Direction
