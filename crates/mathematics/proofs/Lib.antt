@@ -40,5 +40,7 @@ pub mod Duality
 pub mod Lowest
 pub mod Limits
 pub mod Direction
+pub mod Repriced
 pub mod Examples
 pub mod DirectionExamples
+pub mod RepricedExamples

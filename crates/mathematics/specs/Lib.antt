@@ -9,3 +9,4 @@ pub mod Reach
 pub mod Range
 pub mod Links
 pub mod Direction
+pub mod Repriced
