@@ -41,6 +41,7 @@ pub mod Lowest
 pub mod Limits
 pub mod Direction
 pub mod Repriced
+pub mod Avoid
 pub mod Examples
 pub mod DirectionExamples
 pub mod RepricedExamples

@@ -10,3 +10,5 @@ pub mod Range
 pub mod Links
 pub mod Direction
 pub mod Repriced
+pub mod Safe
+pub mod Barred
