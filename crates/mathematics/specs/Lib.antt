@@ -12,3 +12,4 @@ pub mod Direction
 pub mod Repriced
 pub mod Safe
 pub mod Barred
+pub mod Counting
