@@ -43,6 +43,7 @@ pub mod Direction
 pub mod Repriced
 pub mod Avoid
 pub mod Counting
+pub mod Stretches
 pub mod Examples
 pub mod DirectionExamples
 pub mod RepricedExamples

@@ -13,3 +13,4 @@ pub mod Repriced
 pub mod Safe
 pub mod Barred
 pub mod Counting
+pub mod Stretches
