@@ -32,7 +32,7 @@ turned-turned : (a p q : List ℕ) → turned (turned a p) q ≡ turned p (a ++ 
 turned-turned [] p q = refl
 turned-turned (x ∷ a) p q = turned-turned a (x ∷ p) q
 
-turned-split : (a p : List ℕ) → turned a p ≡ turned a [] ++ p
+pub turned-split : (a p : List ℕ) → turned a p ≡ turned a [] ++ p
 turned-split [] p = refl
 turned-split (x ∷ a) p =
     turned-split a (x ∷ p) ∙ (sym (append-assoc (turned a []) (x ∷ []) p) ∙ ap (λ (q : List ℕ). q ++ p) (sym (turned-split a (x ∷ []))))
@@ -64,7 +64,7 @@ holds-one v p h =
     subst (λ (q : List ℕ). OneOf q v) (sym e) (among-right v a (v ∷ b) (inl refl))
 
 -- z stands in a list, or not
-find : (z : ℕ) (a p : List ℕ) → ((b : List ℕ) × (c : List ℕ) × (turned a p ≡ turned b (z ∷ c))) ⊎ (OneOf p z → ⊥)
+pub find : (z : ℕ) (a p : List ℕ) → ((b : List ℕ) × (c : List ℕ) × (turned a p ≡ turned b (z ∷ c))) ⊎ (OneOf p z → ⊥)
 find z a [] = inr (λ m. m)
 find z a (v ∷ p) = go (test (eqb v z)) (find z (v ∷ a) p)
   where
@@ -103,11 +103,11 @@ held-before z back a b up h =
 -- ---- a path cut at a vertex v: how it arrives there, the nearest vertex first, and how it goes on
 
 module _ {E : Type 0} (G : Graph E) where
-  abbrev Arrives : List ℕ → ℕ → Type 0
+  abbrev pub Arrives : List ℕ → ℕ → Type 0
   Arrives [] v = T (isStart G v)
   Arrives (u ∷ a) v = T (hasArc (G .arcs) u v) × Arrives a u
 
-  abbrev Leaves : ℕ → List ℕ → Type 0
+  abbrev pub Leaves : ℕ → List ℕ → Type 0
   Leaves v [] = T (isEnd G v)
   Leaves v (w ∷ b) = T (hasArc (G .arcs) v w) × Leaves w b
 
@@ -121,7 +121,7 @@ module _ {E : Type 0} (G : Graph E) where
       let (l, e) = leaves-in w b (h .1) in
       (and-in (hasArc (G .arcs) v w) (linked (G .arcs) (w ∷ b)) (h .0) l, e)
 
-  path-cut : (a : List ℕ) (v : ℕ) (b : List ℕ) → T (isPath G (turned a (v ∷ b))) → Arrives a v × Leaves v b
+  pub path-cut : (a : List ℕ) (v : ℕ) (b : List ℕ) → T (isPath G (turned a (v ∷ b))) → Arrives a v × Leaves v b
   path-cut [] v b h = (path-start G v b h, leaves-out v b (path-linked G v b h) (path-end G v b h))
   path-cut (u ∷ a) v b h =
       let (l, r) = path-cut a u (v ∷ b) h in
@@ -147,44 +147,6 @@ module _ {E : Type 0} (G : Graph E) where
   abbrev Enters : ℕ → List ℕ → List ℕ → Type 0
   Enters t back [] = T (opens G t back)
   Enters t back (u ∷ a) = T (steps G t back u) × Arrives a u
-
-  enters-later : (t y : ℕ) (back a : List ℕ) → Enters y back a → Enters t (y ∷ back) a
-  enters-later t y back [] h = or-r (isStart G t) (opens G y back) h
-  enters-later t y back (u ∷ a) h = (or-r (hasArc (G .arcs) u t && not (eqb u y)) (steps G y back u) (h .0), h .1)
-
-  -- ---- taking off: what a has of back, from the nearest vertex on
-
-  abbrev off : List ℕ → List ℕ → List ℕ
-  off [] a = a
-  off (y ∷ back) [] = []
-  off (y ∷ back) (u ∷ a) = cond (eqb u y) (off back a) (u ∷ a)
-
-  off-enters : (t : ℕ) (back a : List ℕ) → Arrives a t → (T (begins back a) → ⊥) → Enters t back (off back a)
-  off-enters t [] a s n = absurd (n tt)
-  off-enters t (y ∷ back) [] s n = or-l (isStart G t) (opens G y back) s
-  off-enters t (y ∷ back) (u ∷ a) s n = go (test (eqb u y)) (off-enters u back a (s .1))
-    where
-      go : T (eqb u y) ⊎ (T (eqb u y) → ⊥) → ((T (begins back a) → ⊥) → Enters u back (off back a)) →
-          Enters t (y ∷ back) (cond (eqb u y) (off back a) (u ∷ a))
-      go (inl e) more =
-          rw (is-true (eqb u y) e)
-          (enters-later t y back (off back a)
-          (subst (λ (x : ℕ). Enters x back (off back a)) (eqb→eq u y e)
-          (more (λ b. n (and-in (eqb y u) (begins back a) (subst (λ (x : ℕ). T (eqb y x)) (sym (eqb→eq u y e)) (eqb-refl y)) b)))))
-      go (inr f) more =
-          rw (is-false (eqb u y) f)
-          (or-l (hasArc (G .arcs) u t && not (eqb u y)) (steps G y back u) (and-in (hasArc (G .arcs) u t) (not (eqb u y)) (s .0) (not-T (eqb u y) f)), s .1)
-
-  off-keeps : (v : ℕ) (back a : List ℕ) → OneOf a v → OneOf (off back a) v ⊎ OneOf back v
-  off-keeps v [] a m = inl m
-  off-keeps v (y ∷ back) [] m = absurd m
-  off-keeps v (y ∷ back) (u ∷ a) m = go (test (eqb u y)) m (off-keeps v back a)
-    where
-      go : T (eqb u y) ⊎ (T (eqb u y) → ⊥) → OneOf (u ∷ a) v → (OneOf a v → OneOf (off back a) v ⊎ OneOf back v) →
-          OneOf (cond (eqb u y) (off back a) (u ∷ a)) v ⊎ OneOf (y ∷ back) v
-      go (inl e) (inl d) more = inr (inl (d ∙ eqb→eq u y e))
-      go (inl e) (inr k) more = rw (is-true (eqb u y) e) (elim (more k) [ inl h ↦ inl h | inr h ↦ inr (inr h) ])
-      go (inr f) k more = rw (is-false (eqb u y) f) (inl k)
 
   -- ---- putting on: vertices of the stretch in front of a, so that the way arrives at t without the whole of back
 
@@ -224,6 +186,44 @@ module _ {E : Type 0} (G : Graph E) where
         | inr s ↦ put-later t y back (u ∷ a) (c .0) (put-on y back (u ∷ a) (c .1) (s, h .1))
       ]
 
+  -- ---- taking off: what a has of back, from the nearest vertex on
+
+  enters-later : (t y : ℕ) (back a : List ℕ) → Enters y back a → Enters t (y ∷ back) a
+  enters-later t y back [] h = or-r (isStart G t) (opens G y back) h
+  enters-later t y back (u ∷ a) h = (or-r (hasArc (G .arcs) u t && not (eqb u y)) (steps G y back u) (h .0), h .1)
+
+  abbrev off : List ℕ → List ℕ → List ℕ
+  off [] a = a
+  off (y ∷ back) [] = []
+  off (y ∷ back) (u ∷ a) = cond (eqb u y) (off back a) (u ∷ a)
+
+  off-enters : (t : ℕ) (back a : List ℕ) → Arrives a t → (T (begins back a) → ⊥) → Enters t back (off back a)
+  off-enters t [] a s n = absurd (n tt)
+  off-enters t (y ∷ back) [] s n = or-l (isStart G t) (opens G y back) s
+  off-enters t (y ∷ back) (u ∷ a) s n = go (test (eqb u y)) (off-enters u back a (s .1))
+    where
+      go : T (eqb u y) ⊎ (T (eqb u y) → ⊥) → ((T (begins back a) → ⊥) → Enters u back (off back a)) →
+          Enters t (y ∷ back) (cond (eqb u y) (off back a) (u ∷ a))
+      go (inl e) more =
+          rw (is-true (eqb u y) e)
+          (enters-later t y back (off back a)
+          (subst (λ (x : ℕ). Enters x back (off back a)) (eqb→eq u y e)
+          (more (λ b. n (and-in (eqb y u) (begins back a) (subst (λ (x : ℕ). T (eqb y x)) (sym (eqb→eq u y e)) (eqb-refl y)) b)))))
+      go (inr f) more =
+          rw (is-false (eqb u y) f)
+          (or-l (hasArc (G .arcs) u t && not (eqb u y)) (steps G y back u) (and-in (hasArc (G .arcs) u t) (not (eqb u y)) (s .0) (not-T (eqb u y) f)), s .1)
+
+  off-keeps : (v : ℕ) (back a : List ℕ) → OneOf a v → OneOf (off back a) v ⊎ OneOf back v
+  off-keeps v [] a m = inl m
+  off-keeps v (y ∷ back) [] m = absurd m
+  off-keeps v (y ∷ back) (u ∷ a) m = go (test (eqb u y)) m (off-keeps v back a)
+    where
+      go : T (eqb u y) ⊎ (T (eqb u y) → ⊥) → OneOf (u ∷ a) v → (OneOf a v → OneOf (off back a) v ⊎ OneOf back v) →
+          OneOf (cond (eqb u y) (off back a) (u ∷ a)) v ⊎ OneOf (y ∷ back) v
+      go (inl e) (inl d) more = inr (inl (d ∙ eqb→eq u y e))
+      go (inl e) (inr k) more = rw (is-true (eqb u y) e) (elim (more k) [ inl h ↦ inl h | inr h ↦ inr (inr h) ])
+      go (inr f) k more = rw (is-false (eqb u y) f) (inl k)
+
 -- ---- a list of lists changed one by one: as many, each from one and to one
 
 images : {A B : Type 0} (R : A → B → Type 0) (xs : List A) → All (λ x. (y : B) × R x y) xs →
@@ -238,7 +238,7 @@ images R (x ∷ xs) ((y, r), h) =
     )
 
 -- the path of a cover that holds r
-holder : (Q : List (List ℕ)) (r : List ℕ) → T (someHolds Q r) → (q : List ℕ) × OneOf Q q × T (holds q r)
+pub holder : (Q : List (List ℕ)) (r : List ℕ) → T (someHolds Q r) → (q : List ℕ) × OneOf Q q × T (holds q r)
 holder Q r h = let (q, m, w) = some-held Q r h in (q, m, within-holds q r w)
 
 module _ {E : Type 0} (G H : Graph E) (g : WellFormed G) (up : All (Rises (length (H .vertices))) (H .arcs)) (z y : ℕ) (back : List ℕ)

@@ -43,7 +43,9 @@ pub mod Direction
 pub mod Repriced
 pub mod Avoid
 pub mod Counting
+pub mod SafeTest
 pub mod Stretches
 pub mod Examples
 pub mod DirectionExamples
 pub mod RepricedExamples
+pub mod SafeExamples

@@ -5,17 +5,19 @@ use native.Mathlib.Omega.{arith}
 use mathlib.Core.Path.{_≡_, refl, sym, ap, ap₂, subst, _∙_}
 use mathlib.Core.List.{List, [], _∷_, _++_, append-nil, append-assoc, tail-eq-of-cons-eq}
 use mathlib.Core.Bool.{Bool, true, false}
-use mathlib.Core.Logic.{_⊎_, inl, inr, _↔_}
-use lib.Dec.{T, ltb, ltb→lt, nltb→le, not-T}
+use mathlib.Core.Logic.{_⊎_, inl, inr, _↔_, _≢_}
+use lib.Dec.{T, eqb, eqb→eq, leb, leb→le, le→leb, ltb, ltb→lt, lt→ltb, nltb→le, not-T}
 use lib.ListN.{length, getD, take, drop, length-append, length-drop, take-append-drop}
 use lib.Seq.{length-take-le, take-at, drop-at, take-take, drop-cons}
-use Rattle.mathematics.specs.Lists.{All, Pairwise, holds, someHolds}
+use Rattle.mathematics.specs.Lists.{All, Pairwise, sumOver, holds, someHolds}
 use Rattle.mathematics.specs.Graph.{Arc, Graph, hasArc, linked, isPath}
 use Rattle.mathematics.specs.Range.{OneOf}
 use Rattle.mathematics.specs.Safe.{PathCover, Safe, SafeStretch, MaximalSafe}
 use Rattle.mathematics.specs.Stretches.{part, rowOf, StandsAt, SizeIs, SizesRight, Kept}
 use Rattle.mathematics.proofs.Basics.{and-in, all-among, test}
-use Rattle.mathematics.proofs.Parts.{Within, Held, holds-within, within-holds, within-trans, some-held, held-some}
+use Rattle.mathematics.proofs.Loads.{unequal}
+use Rattle.mathematics.proofs.Merge.{samePath, same-path-equal, same-path-self}
+use Rattle.mathematics.proofs.Parts.{Within, Held, holds-within, within-holds, within-self, within-trans, some-held, held-some}
 use Rattle.mathematics.proofs.Reach.{linked-first, linked-rest, path-linked}
 
 -- ---- parts of lists
@@ -84,6 +86,51 @@ held-stands C p h =
 
 stands-within : (C : List (List ℕ)) (p : List ℕ) (r i : ℕ) → StandsAt C p r i → Within p (rowOf C r)
 stands-within C p r i s = subst (λ (t : List ℕ). Within t (rowOf C r)) (s .is-part) (part-within (rowOf C r) i (length p))
+
+row-short : (C : List (List ℕ)) (r : ℕ) → r < length C → length (rowOf C r) ≤ sumOver length C
+row-short [] r l = absurd (omega arith)
+row-short (q ∷ C) zero l = omega arith
+row-short (q ∷ C) (suc r) l = let h = row-short C r (omega arith) in omega arith
+
+-- whether it stands there
+stands? : (C : List (List ℕ)) (p : List ℕ) (r i : ℕ) → StandsAt C p r i ⊎ (StandsAt C p r i → ⊥)
+stands? C p r i =
+    go (test (ltb r (length C))) (test (leb (i + length p) (length (rowOf C r)))) (test (samePath (part (rowOf C r) i (length p)) p))
+  where
+    go : T (ltb r (length C)) ⊎ (T (ltb r (length C)) → ⊥) →
+        T (leb (i + length p) (length (rowOf C r))) ⊎ (T (leb (i + length p) (length (rowOf C r))) → ⊥) →
+        T (samePath (part (rowOf C r) i (length p)) p) ⊎ (T (samePath (part (rowOf C r) i (length p)) p) → ⊥) →
+        StandsAt C p r i ⊎ (StandsAt C p r i → ⊥)
+    go (inr f) k e = inr (λ at. f (lt→ltb r (length C) (at .row-there)))
+    go (inl t) (inr f) e = inr (λ at. f (le→leb (i + length p) (length (rowOf C r)) (at .fits)))
+    go (inl t) (inl k) (inr f) =
+        inr (λ at. f (subst (λ (q : List ℕ). T (samePath q p)) (sym (at .is-part)) (same-path-self p)))
+    go (inl t) (inl k) (inl e) =
+        inl
+        (record {
+          row-there = ltb→lt r (length C) t;
+          fits = leb→le (i + length p) (length (rowOf C r)) k;
+          is-part = same-path-equal (part (rowOf C r) i (length p)) p e;
+        })
+
+-- P of each number below n, or X of one of them
+each-below : {X : Type 0} (P : ℕ → Type 0) → ((i : ℕ) → P i ⊎ X) → (n : ℕ) → ((i : ℕ) → i < n → P i) ⊎ X
+each-below P f zero = inl (λ i l. absurd (omega arith))
+each-below {X} P f (suc n) = go (f n) (each-below P f n)
+  where
+    last : P n → ((i : ℕ) → i < n → P i) → (i : ℕ) → i < suc n → P i
+    last a h i l =
+        elim (test (eqb i n)) [
+          | inl t ↦ subst P (sym (eqb→eq i n t)) a
+          | inr t ↦
+              let apart : i ≢ n = unequal i n t in
+              h i (omega arith)
+        ]
+
+    go : P n ⊎ X → ((i : ℕ) → i < n → P i) ⊎ X → ((i : ℕ) → i < suc n → P i) ⊎ X
+    go (inr x) h = inr x
+    go (inl a) (inr x) = inr x
+    go (inl a) (inl h) = inl (last a h)
 
 -- ---- parts of safe stretches
 
@@ -201,45 +248,83 @@ module _ {E : Type 0} (G : Graph E) (most : ℕ) where
             let k = kept r j (record { row-there = at .row-there; fits = omega arith; is-part = here }) .0 in
             omega (arith, stands-size (p ++ (v ∷ [])) r j t at)
 
-    pub maximal-is-kept : (p : List ℕ) → MaximalSafe G most p → Kept C size p
-    maximal-is-kept p m r i at = (here, before i at)
-      where
-        here : size r i ≤ length p
-        here =
-            let some = m .safe-stretch .some in
-            let fits = at .fits in
-            let s = right r i (at .row-there) (omega arith) in
-            let l =
-            m .longest (part (rowOf C r) i (size r i)) (size-safe r i (at .row-there) (omega arith))
-            (within-holds (part (rowOf C r) i (size r i)) p
-            (subst (λ (t : List ℕ). Within t (part (rowOf C r) i (size r i))) (at .is-part)
-            (part-shorter (rowOf C r) i (length p) (size r i) (stands-size p r i (m .safe-stretch) at)))) in
-            omega (arith, part-length (rowOf C r) i (size r i) (s .fits))
+    -- a longer safe stretch that holds p
+    abbrev Longer : List ℕ → Type 0
+    Longer p = (q : List ℕ) × SafeStretch G most q × Within p q × (length p < length q)
 
-        before : (i : ℕ) → StandsAt C p r i → 1 ≤ i → size r (i - 1) ≤ length p
-        before zero at l = absurd (omega arith)
-        before (suc j) at l =
-            let fits = at .fits in
+    longer-here : (p : List ℕ) (r i : ℕ) → 1 ≤ length p → StandsAt C p r i → length p < size r i → Longer p
+    longer-here p r i some at l =
+        let fits = at .fits in
+        let s = right r i (at .row-there) (omega arith) in (
+          part (rowOf C r) i (size r i),
+          size-safe r i (at .row-there) (omega arith),
+          subst (λ (t : List ℕ). Within t (part (rowOf C r) i (size r i))) (at .is-part) (part-shorter (rowOf C r) i (length p) (size r i) (omega arith)),
+          omega (arith, part-length (rowOf C r) i (size r i) (s .fits)),
+        )
+
+    longer-before : (p : List ℕ) (r i : ℕ) → 1 ≤ length p → StandsAt C p r (suc i) → length p < size r i → Longer p
+    longer-before p r i some at l =
+        let fits = at .fits in
+        let s = right r i (at .row-there) (omega arith) in
+        let whole : part (rowOf C r) i (suc (length p)) ≡ getD (rowOf C r) i 0 ∷ p =
+        part-before (rowOf C r) i (length p) (omega arith) ∙ ap (λ (q : List ℕ). getD (rowOf C r) i 0 ∷ q) (at .is-part) in
+        let front : Within p (getD (rowOf C r) i 0 ∷ p) =
+        (getD (rowOf C r) i 0 ∷ [], [], ap (λ (q : List ℕ). getD (rowOf C r) i 0 ∷ q) (sym (append-nil p))) in (
+          part (rowOf C r) i (size r i),
+          size-safe r i (at .row-there) (omega arith),
+          within-trans p (getD (rowOf C r) i 0 ∷ p) (part (rowOf C r) i (size r i)) front
+              (subst (λ (q : List ℕ). Within q (part (rowOf C r) i (size r i))) whole
+              (part-shorter (rowOf C r) i (suc (length p)) (size r i) (omega arith))),
+          omega (arith, part-length (rowOf C r) i (size r i) (s .fits)),
+        )
+
+    -- p is kept as far as this place goes
+    abbrev KeptAt : List ℕ → ℕ → ℕ → Type 0
+    KeptAt p r i = StandsAt C p r i → (size r i ≤ length p) × (1 ≤ i → size r (i - 1) ≤ length p)
+
+    -- and where it is not, a longer safe stretch is found there
+    kept-at : (p : List ℕ) → 1 ≤ length p → (r i : ℕ) → KeptAt p r i ⊎ Longer p
+    kept-at p some r i = go (stands? C p r i)
+      where
+        no-more : (m : ℕ) → (length p < m → Longer p) → (m ≤ length p) ⊎ Longer p
+        no-more m longer =
+            elim (test (ltb (length p) m)) [
+              | inl t ↦ inr (longer (ltb→lt (length p) m t))
+              | inr f ↦ inl (nltb→le (length p) m (not-T (ltb (length p) m) f))
+            ]
+
+        both : (i : ℕ) → StandsAt C p r i → size r i ≤ length p → KeptAt p r i ⊎ Longer p
+        both zero at h = inl (λ k. (h, λ l. absurd (omega arith)))
+        both (suc j) at h =
             let same : suc j - 1 ≡ j = omega arith in
-            subst (λ (i : ℕ). size r i ≤ length p) (sym same) (go (test (ltb (length p) (size r j))))
-          where
-            go : T (ltb (length p) (size r j)) ⊎ (T (ltb (length p) (size r j)) → ⊥) → size r j ≤ length p
-            go (inr f) = nltb→le (length p) (size r j) (not-T (ltb (length p) (size r j)) f)
-            go (inl t) =
-                let more = ltb→lt (length p) (size r j) t in
-                let fits = at .fits in
-                let whole : part (rowOf C r) j (suc (length p)) ≡ getD (rowOf C r) j 0 ∷ p =
-                part-before (rowOf C r) j (length p) (omega (arith, m .safe-stretch .some)) ∙
-                ap (λ (q : List ℕ). getD (rowOf C r) j 0 ∷ q) (at .is-part) in
-                let longer =
-                stretch-part (getD (rowOf C r) j 0 ∷ p) (part (rowOf C r) j (size r j)) (omega arith)
-                (subst (λ (q : List ℕ). Within q (part (rowOf C r) j (size r j))) whole
-                (part-shorter (rowOf C r) j (suc (length p)) (size r j) (omega arith)))
-                (size-safe r j (at .row-there) (omega (arith, m .safe-stretch .some))) in
-                let l =
-                m .longest (getD (rowOf C r) j 0 ∷ p) longer
-                (within-holds (getD (rowOf C r) j 0 ∷ p) p (getD (rowOf C r) j 0 ∷ [], [], ap (λ (q : List ℕ). getD (rowOf C r) j 0 ∷ q) (sym (append-nil p)))) in
-                absurd (omega arith)
+            elim (no-more (size r j) (longer-before p r j some at)) [
+              | inl k ↦ inl (λ e. (h, λ l. subst (λ (n : ℕ). size r n ≤ length p) (sym same) k))
+              | inr q ↦ inr q
+            ]
+
+        go : StandsAt C p r i ⊎ (StandsAt C p r i → ⊥) → KeptAt p r i ⊎ Longer p
+        go (inr none) = inl (λ at. absurd (none at))
+        go (inl at) = elim (no-more (size r i) (longer-here p r i some at)) [ inl h ↦ both i at h | inr q ↦ inr q ]
+
+    kept-or-longer : (p : List ℕ) → 1 ≤ length p → Kept C size p ⊎ Longer p
+    kept-or-longer p some =
+        elim (
+        each-below (λ r. (i : ℕ) → i < suc (length (rowOf C r)) → KeptAt p r i) (λ r. each-below (KeptAt p r) (kept-at p some r) (suc (length (rowOf C r))))
+        (length C)
+        ) [
+          | inl h ↦ inl (λ r i at. let fits = at .fits in h r (at .row-there) i (omega arith) at)
+          | inr q ↦ inr q
+        ]
+
+    pub maximal-is-kept : (p : List ℕ) → MaximalSafe G most p → Kept C size p
+    maximal-is-kept p m =
+        elim (kept-or-longer p (m .safe-stretch .some)) [
+          | inl kept ↦ kept
+          | inr longer ↦
+              let (q, s, w, l) = longer in
+              let h = m .longest q s (within-holds q p w) in
+              absurd (omega arith)
+        ]
 
     -- The maximal safe stretches are what the sizes name and is kept.
     pub maximal-iff-kept : (p : List ℕ) →
@@ -259,6 +344,38 @@ module _ {E : Type 0} (G : Graph E) (most : ℕ) where
 
         back : (r i : ℕ) → r < length C → i < length (rowOf C r) → p ≡ part (rowOf C r) i (size r i) → Kept C size p → MaximalSafe G most p
         back r i l k e kept = kept-is-maximal p (subst (SafeStretch G most) (sym e) (size-safe r i l k)) kept
+
+    -- ---- nothing is lost: every safe stretch lies in a maximal one
+
+    safe-short : (p : List ℕ) → SafeStretch G most p → length p ≤ sumOver length C
+    safe-short p s =
+        let (r, i, at) = safe-stands p (s .safe) in
+        let fits = at .fits in
+        omega (arith, row-short C r (at .row-there))
+
+    grow : (fuel : ℕ) (p : List ℕ) → SafeStretch G most p → sumOver length C ≤ length p + fuel → (q : List ℕ) × MaximalSafe G most q × Within p q
+    grow zero p s l =
+        elim (kept-or-longer p (s .some)) [
+          | inl kept ↦ (p, kept-is-maximal p s kept, within-self p)
+          | inr longer ↦
+              let (q, t, w, m) = longer in
+              absurd (omega (arith, safe-short q t))
+        ]
+    grow (suc fuel) p s l =
+        elim (kept-or-longer p (s .some)) [
+          | inl kept ↦ (p, kept-is-maximal p s kept, within-self p)
+          | inr longer ↦
+              let (q, t, w, m) = longer in
+              let (x, h, v) = grow fuel q t (omega arith) in
+              (x, h, within-trans p q x w v)
+        ]
+
+    pub nothing-lost : (p : List ℕ) → SafeStretch G most p → (q : List ℕ) × MaximalSafe G most q × T (holds q p)
+    nothing-lost p s = let (q, m, w) = grow (sumOver length C) p s (omega arith) in (q, m, within-holds q p w)
+
+    -- so every vertex lies in a maximal safe stretch, and the list is not empty
+    pub every-vertex-listed : (v : ℕ) → v < length (G .vertices) → (q : List ℕ) × MaximalSafe G most q × T (holds q (v ∷ []))
+    every-vertex-listed v l = nothing-lost (v ∷ []) (record { some = omega arith; stretch = tt; safe = vertex-safe v l })
 
 -- ---- one list
 
