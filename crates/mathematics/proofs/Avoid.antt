@@ -150,11 +150,11 @@ module _ {E : Type 0} (G : Graph E) where
 
   -- ---- putting on: vertices of the stretch in front of a, so that the way arrives at t without the whole of back
 
-  abbrev Chain : ℕ → List ℕ → Type 0
+  abbrev pub Chain : ℕ → List ℕ → Type 0
   Chain t [] = Unit {0}
   Chain t (y ∷ back) = T (hasArc (G .arcs) y t) × Chain y back
 
-  chain : (t : ℕ) (b back : List ℕ) → T (linked (G .arcs) (turned back (t ∷ b))) → Chain t back × T (linked (G .arcs) (t ∷ b))
+  pub chain : (t : ℕ) (b back : List ℕ) → T (linked (G .arcs) (turned back (t ∷ b))) → Chain t back × T (linked (G .arcs) (t ∷ b))
   chain t b [] h = (tt, h)
   chain t b (y ∷ back) h =
       let (c, l) = chain y (t ∷ b) back h in
@@ -299,7 +299,7 @@ module _ {E : Type 0} (G H : Graph E) (g : WellFormed G) (up : All (Rises (lengt
   -- ---- from a path of G that does not hold the stretch to a path of H
 
   -- r has what q has, but for vertices of the stretch before z; and if q holds all of those, they too
-  pub record Off (q r : List ℕ) : Type 0 where
+  record Off (q r : List ℕ) : Type 0 where
     pub is-path : T (isPath H r)
     pub keeps : (v : ℕ) → OneOf q v → OneOf r v ⊎ OneOf (y ∷ back) v
     pub keeps-all : T (holds q before) → (v : ℕ) → OneOf q v → OneOf r v
@@ -392,7 +392,7 @@ module _ {E : Type 0} (G H : Graph E) (g : WellFormed G) (up : All (Rises (lengt
   -- ---- from a path of H to a path of G that does not hold the stretch
 
   -- q does not hold the stretch, and has what r has
-  pub record On (r q : List ℕ) : Type 0 where
+  record On (r q : List ℕ) : Type 0 where
     pub is-path : T (isPath G q)
     pub avoids : T (holds q stretch) → ⊥
     pub keeps : (v : ℕ) → OneOf r v → OneOf q v

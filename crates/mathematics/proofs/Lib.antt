@@ -42,6 +42,7 @@ pub mod Limits
 pub mod Direction
 pub mod Repriced
 pub mod Avoid
+pub mod BarredThere
 pub mod Counting
 pub mod SafeTest
 pub mod Stretches

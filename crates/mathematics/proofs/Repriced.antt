@@ -19,7 +19,7 @@ use Rattle.mathematics.specs.Reach.{someInto, someOut, fromStartIn, toEn
 use Rattle.mathematics.specs.Range.{CostsHold}
 use Rattle.mathematics.specs.Prepare.{prepare}
 use Rattle.mathematics.specs.Bound.{rest, Marks, vertexSlack, arcSlack, vertexSlacksHold, arcSlackHolds, VertexSlacksHold, SlacksHold, vertexTerms, arcTerms, readTerm, readTerms, bound}
-use Rattle.mathematics.specs.Direction.{Each, ArcRaised, AsksMore}
+use Rattle.mathematics.specs.Direction.{LowestPrice, Each, ArcRaised, AsksMore}
 use Rattle.mathematics.specs.Repriced.{repricedArc, repriced, repricedMarks, plain, fewestFirst, plainly, totalArcCost, FewestThenCheapest}
 use Rattle.mathematics.proofs.Basics.{all-weaken, all-map, all-unmap, test, is-true, is-false}
 use Rattle.mathematics.proofs.Algebra
@@ -309,6 +309,12 @@ module _ (G : Graph ℤ) where
 
   pub plainly-lowest : (W : List Weighted) → IsLowest pairs (plainly G) W ↔ IsLowest whole G W
   plainly-lowest W = lowest-carried whole pairs plain plain-carries G W
+
+  pub plainly-lowest-price : (x : ℤ) → LowestPrice pairs (plainly G) (plain x) ↔ LowestPrice whole G x
+  plainly-lowest-price x = (
+    λ h. (h .0, plainly-lowest (h .0) .0 (h .1), ap (λ (p : Pair). p .second) (sym (plainly-price (h .0)) ∙ h .2)),
+    λ h. (h .0, plainly-lowest (h .0) .1 (h .1), plainly-price (h .0) ∙ ap plain (h .2)),
+  )
 
   pub plainly-bound : (m : Marks ℤ) → bound pairs (plainly G) (repricedMarks plain m) ≡ plain (bound whole G m)
   plainly-bound m = bound-carried whole pairs plain plain-carries G m
