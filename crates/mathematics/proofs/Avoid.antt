@@ -5,7 +5,7 @@ use Prim.Native.Nat.{ℕ, suc, _≤_, _<_}
 use native.Mathlib.Omega.{arith}
 use mathlib.Core.Path.{_≡_, refl, sym, ap, ap₂, subst, _∙_}
 use mathlib.Core.List.{List, [], _∷_, _++_, append-nil, append-assoc}
-use mathlib.Core.Bool.{Bool, true, false, cond, not, _&&_, _||_}
+use mathlib.Core.Bool.{Bool, true, false, cond, not, _&&_}
 use mathlib.Core.Logic.{_⊎_, inl, inr, _↔_, _≢_}
 use lib.Dec.{T, eqb, eqb→eq, eqb-refl, not-T, T-not}
 use lib.ListN.{length}
@@ -17,7 +17,7 @@ use Rattle.mathematics.specs.Barred.{turned, steps, opens, Barred}
 use Rattle.mathematics.proofs.Basics.{and-l, and-r, and-in, or-cases, or-l, or-r, all-among, all-from, all-weaken, among-left, among-right, is-true, is-false, test}
 use Rattle.mathematics.proofs.Loads.{unequal}
 use Rattle.mathematics.proofs.Merge.{some-holds}
-use Rattle.mathematics.proofs.Parts.{Within, begins-rest, begins-append, holds-within, within-holds, some-held, one-place}
+use Rattle.mathematics.proofs.Parts.{begins-rest, begins-append, holds-within, within-holds, some-held, one-place}
 use Rattle.mathematics.proofs.Reach.{linked-first, linked-rest, arc-rises, path-start, path-linked, path-end, path-from-parts}
 use Rattle.mathematics.proofs.Taken.{all-both}
 use Rattle.mathematics.proofs.Linked.{path-rising}

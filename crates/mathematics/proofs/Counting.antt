@@ -2,22 +2,21 @@
 use Prim.Native.Nat.{ℕ, zero, suc, _+_, _*_, _≤_, _<_}
 use native.Mathlib.Omega.{arith}
 use mathlib.Core.Path.{_≡_, refl, sym, ap, ap₂, subst, _∙_}
-use mathlib.Core.List.{List, [], _∷_, _++_, map}
+use mathlib.Core.List.{List, [], _∷_, map}
 use mathlib.Core.Bool.{Bool, true, false, cond, _&&_, _||_}
 use mathlib.Core.Logic.{_⊎_, inl, inr, _↔_}
 use lib.Dec.{T, eqb, eqb→eq, leb→le, le→leb}
 use lib.ListN.{length, length-map, getD}
 use lib.IntN.{ℤ, pos, _+ℤ_}
-use Rattle.mathematics.specs.Price.{Le, times, whole}
+use Rattle.mathematics.specs.Price.{times, whole}
 use Rattle.mathematics.specs.Lists.{All, holds, someHolds, lastOf}
 use Rattle.mathematics.specs.Graph.{Vertex, Arc, Graph, noVertex, isStart, isEnd, joins, hasArc, linked, isPath}
-use Rattle.mathematics.specs.Cover.{Item, vert, arc, through, Ask, vertexAsks, arcAsk, asks, Weighted, total, totalWeight, paths, IsCover, costOf, arcCosts, copyPrice, price, IsLowest}
+use Rattle.mathematics.specs.Cover.{Item, vert, through, Ask, vertexAsks, arcAsk, Weighted, total, totalWeight, paths, IsCover, costOf, arcCosts, price}
 use Rattle.mathematics.specs.Reach.{itemList}
-use Rattle.mathematics.specs.Range.{OneOf}
 use Rattle.mathematics.specs.Direction.{LowestPrice}
 use Rattle.mathematics.specs.Safe.{PathCover}
 use Rattle.mathematics.specs.Counting.{LeastPaths, Counting, countedVertex, countedArc, counting}
-use Rattle.mathematics.proofs.Basics.{or-cases, all-append, all-left, all-map, all-unmap, all-weaken, among-map, test}
+use Rattle.mathematics.proofs.Basics.{or-cases, all-append, all-left, all-map, all-weaken, among-map, test}
 use Rattle.mathematics.proofs.Loads.{unequal}
 use Rattle.mathematics.proofs.Merge.{merge, merge-total, merge-weight, merge-weights, merge-all, merge-distinct, some-holds}
 use Rattle.mathematics.proofs.Reach.{through-iff-holds}

@@ -1,8 +1,8 @@
 -- #113: what asks more is never cheaper. A cover of the graph that asks more is a cover of the one that asks less, and costs no less there; so no marks, no
 -- preparation and no limit is needed, and the argument is one for every kind of price.
-use Prim.Native.Nat.{ℕ, zero, suc, _+_, _≤_}
+use Prim.Native.Nat.{ℕ, zero, suc, _≤_}
 use native.Mathlib.Omega.{arith}
-use mathlib.Core.Path.{_≡_, refl, sym, ap, ap₂, subst, _∙_}
+use mathlib.Core.Path.{_≡_, refl, sym, ap₂, subst, _∙_}
 use mathlib.Core.List.{List, [], _∷_, _++_, map}
 use mathlib.Core.Bool.{Bool, true, false, cond, _&&_, _||_}
 use mathlib.Core.Logic.{_⊎_, inl, inr, _↔_}
@@ -10,8 +10,8 @@ use lib.Dec.{T, eqb}
 use lib.ListN.{getD, take, drop}
 use Rattle.mathematics.specs.Price.{Prices, Le, times, Ordered}
 use Rattle.mathematics.specs.Lists.{All, lastOf, someHolds}
-use Rattle.mathematics.specs.Graph.{Vertex, Arc, Graph, WellFormed, noVertex, isStart, isEnd, joins, hasArc, linked, isPath, withReads}
-use Rattle.mathematics.specs.Cover.{Ask, vertexAsks, arcAsk, asks, total, Weighted, paths, IsCover, costOf, arcCosts, copyPrice, price, IsLowest}
+use Rattle.mathematics.specs.Graph.{Vertex, Arc, Graph, WellFormed, noVertex, joins, hasArc, linked, isPath, withReads}
+use Rattle.mathematics.specs.Cover.{Ask, vertexAsks, arcAsk, total, Weighted, paths, IsCover, costOf, arcCosts, copyPrice, price}
 use Rattle.mathematics.specs.Range.{OneOf, CostsHold}
 use Rattle.mathematics.specs.Direction.{LowestPrice, Each, VertexRaised, ArcRaised, AsksMore, changeAt, vertexDemandRaised, arcDemandRaised, readAdded, arcCostRaised, openingRaised, Reordered}
 use Rattle.mathematics.proofs.Basics.{all-among, all-from, all-weaken, all-append, all-left, all-right, among-left, among-right, among-cases}

@@ -1,7 +1,7 @@
 -- #113, evaluated: each of the changes can raise the lowest price, so "doesn't fall" is no empty promise; and a read that leaves it as it is, and reads in
 -- another order. D costs 34 and L and X cost 24, as document 01 says; the prices after a change are held against the definitions here.
 use Prim.Native.Nat.{ℕ}
-use mathlib.Core.Path.{_≡_, refl}
+use mathlib.Core.Path.{refl}
 use mathlib.Core.List.{List, [], _∷_, tail-eq-of-cons-eq}
 use native.Mathlib.Omega.{arith}
 use lib.IntN.{ℤ, pos, negsuc}

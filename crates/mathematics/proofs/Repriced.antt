@@ -8,13 +8,13 @@ use mathlib.Core.Bool.{Bool, true, false, cond, _&&_, _||_}
 use mathlib.Core.Logic.{_⊎_, inl, inr, _↔_}
 use lib.Dec.{T, eqb, ltb, ltb→lt, nltb→le, not-T}
 use lib.ListN.{length}
-use lib.IntN.{ℤ, pos, negℤ, _+ℤ_}
-use lib.Signed.{ltZ, leZ}
-use Rattle.mathematics.specs.Price.{Prices, Le, sub, times, Ordered, whole, Pair, pairLeb, pairs}
+use lib.IntN.{ℤ, pos, _+ℤ_}
+use lib.Signed.{leZ}
+use Rattle.mathematics.specs.Price.{Prices, Le, sub, times, whole, Pair, pairLeb, pairs}
 use Rattle.mathematics.specs.Lists.{All, Distinct, holds, lastOf}
 use Rattle.mathematics.specs.Graph.{Vertex, Arc, Graph, WellFormed, Rises, isStart, isEnd, joins, hasArc, linked, isPath}
 use Rattle.mathematics.specs.Cover.{vert, arc, through, Ask, vertexAsks, arcAsk, asks, total, totalWeight, Weighted, IsCover, costOf, arcCosts, copyPrice, price, IsLowest}
-use Rattle.mathematics.specs.Exists.{ItemOnPath, ReadOnPath, Coverable}
+use Rattle.mathematics.specs.Exists.{ItemOnPath, Coverable}
 use Rattle.mathematics.specs.Reach.{someInto, someOut, fromStartIn, toEndIn, fromStart, toEnd, useful}
 use Rattle.mathematics.specs.Range.{CostsHold}
 use Rattle.mathematics.specs.Prepare.{prepare}
@@ -23,7 +23,7 @@ use Rattle.mathematics.specs.Direction.{LowestPrice, Each, ArcRaised, As
 use Rattle.mathematics.specs.Repriced.{repricedArc, repriced, repricedMarks, plain, fewestFirst, plainly, totalArcCost, FewestThenCheapest}
 use Rattle.mathematics.proofs.Basics.{all-weaken, all-map, all-unmap, test, is-true, is-false}
 use Rattle.mathematics.proofs.Algebra
-use Rattle.mathematics.proofs.PriceKinds.{whole-ordered, pairs-ordered}
+use Rattle.mathematics.proofs.PriceKinds.{whole-ordered}
 
 -- ---- what does not depend on prices
 

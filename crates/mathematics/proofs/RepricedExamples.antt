@@ -6,11 +6,11 @@ use mathlib.Core.List.{List, [], _∷_}
 use mathlib.Core.Bool.{true, false}
 use native.Mathlib.Omega.{arith}
 use lib.IntN.{ℤ, pos}
-use Rattle.mathematics.specs.Price.{whole, Pair, pairs}
-use Rattle.mathematics.specs.Graph.{Vertex, Graph, WellFormed}
+use Rattle.mathematics.specs.Price.{whole, pairs}
+use Rattle.mathematics.specs.Graph.{Graph, WellFormed}
 use Rattle.mathematics.specs.Cover.{Weighted, IsCover, price, IsLowest}
 use Rattle.mathematics.specs.Prepare.{prepare}
-use Rattle.mathematics.specs.Bound.{Marks, bound, Shows}
+use Rattle.mathematics.specs.Bound.{bound}
 use Rattle.mathematics.specs.Repriced.{fewestFirst, plain, FewestThenCheapest}
 use Rattle.mathematics.proofs.PriceKinds.{whole-ordered, pairs-ordered}
 use Rattle.mathematics.proofs.Lowest.{shown-is-lowest}

@@ -8,8 +8,8 @@ use mathlib.Core.Logic.{_⊎_, inl, inr}
 use lib.Dec.{T}
 use lib.ListN.{length, length-append}
 use lib.IntN.{ℤ, pos}
-use Rattle.mathematics.specs.Lists.{All, holds, someHolds}
-use Rattle.mathematics.specs.Graph.{Arc, Graph, isStart, isEnd, hasArc, isPath}
+use Rattle.mathematics.specs.Lists.{holds, someHolds}
+use Rattle.mathematics.specs.Graph.{Arc, Graph, isStart, isEnd, isPath}
 use Rattle.mathematics.specs.Range.{OneOf}
 use Rattle.mathematics.specs.Safe.{PathCover, Safe, MaximalSafe}
 use Rattle.mathematics.specs.Barred.{turned}

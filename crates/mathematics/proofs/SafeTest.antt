@@ -11,7 +11,7 @@ use Rattle.mathematics.specs.Lists.{All}
 use Rattle.mathematics.specs.Graph.{Graph, WellFormed, Rises, linked}
 use Rattle.mathematics.specs.Cover.{Weighted, IsCover}
 use Rattle.mathematics.specs.Direction.{LowestPrice}
-use Rattle.mathematics.specs.Safe.{PathCover, Safe}
+use Rattle.mathematics.specs.Safe.{Safe}
 use Rattle.mathematics.specs.Barred.{turned, Barred}
 use Rattle.mathematics.specs.Counting.{Counting}
 use Rattle.mathematics.proofs.Basics.{test}

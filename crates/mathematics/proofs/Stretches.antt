@@ -4,12 +4,11 @@ use Prim.Native.Nat.{ℕ, zero, suc, _+_, _-_, _≤_, _<_}
 use native.Mathlib.Omega.{arith}
 use mathlib.Core.Path.{_≡_, refl, sym, ap, ap₂, subst, _∙_}
 use mathlib.Core.List.{List, [], _∷_, _++_, append-nil, append-assoc, tail-eq-of-cons-eq}
-use mathlib.Core.Bool.{Bool, true, false}
 use mathlib.Core.Logic.{_⊎_, inl, inr, _↔_, _≢_}
 use lib.Dec.{T, eqb, eqb→eq, leb, leb→le, le→leb, ltb, ltb→lt, lt→ltb, nltb→le, not-T}
 use lib.ListN.{length, getD, take, drop, length-append, length-drop, take-append-drop}
 use lib.Seq.{length-take-le, take-at, drop-at, take-take, drop-cons}
-use Rattle.mathematics.specs.Lists.{All, Pairwise, sumOver, holds, someHolds}
+use Rattle.mathematics.specs.Lists.{Pairwise, sumOver, holds, someHolds}
 use Rattle.mathematics.specs.Graph.{Arc, Graph, hasArc, linked, isPath}
 use Rattle.mathematics.specs.Range.{OneOf}
 use Rattle.mathematics.specs.Safe.{PathCover, Safe, SafeStretch, MaximalSafe}
@@ -17,7 +16,7 @@ use Rattle.mathematics.specs.Stretches.{part, rowOf, StandsAt, SizeIs, S
 use Rattle.mathematics.proofs.Basics.{and-in, all-among, test}
 use Rattle.mathematics.proofs.Loads.{unequal}
 use Rattle.mathematics.proofs.Merge.{samePath, same-path-equal, same-path-self}
-use Rattle.mathematics.proofs.Parts.{Within, Held, holds-within, within-holds, within-self, within-trans, some-held, held-some}
+use Rattle.mathematics.proofs.Parts.{Within, holds-within, within-holds, within-self, within-trans, some-held, held-some}
 use Rattle.mathematics.proofs.Reach.{linked-first, linked-rest, path-linked}
 
 -- ---- parts of lists

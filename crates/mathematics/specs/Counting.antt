@@ -2,7 +2,7 @@
 -- number of copies.
 use Prim.Native.Nat.{ℕ, _≤_}
 use mathlib.Core.Path.{_≡_}
-use mathlib.Core.List.{List, [], _∷_, map}
+use mathlib.Core.List.{List, [], map}
 use mathlib.Core.Logic.{_↔_}
 use lib.IntN.{ℤ, pos}
 use Rattle.mathematics.specs.Lists.{All}

@@ -1,5 +1,5 @@
 -- Document 02, #108, "Fewest first means fewest first": the same graph with prices of another kind.
-use Prim.Native.Nat.{ℕ, _≤_}
+use Prim.Native.Nat.{_≤_}
 use mathlib.Core.Path.{_≡_}
 use mathlib.Core.List.{List, [], _∷_, map}
 use lib.IntN.{ℤ, pos, _+ℤ_}
