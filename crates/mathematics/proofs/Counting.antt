@@ -9,16 +9,18 @@ use lib.Dec.{T, eqb, eqb→eq, leb→le, le→leb}
 use lib.ListN.{length, length-map, getD}
 use lib.IntN.{ℤ, pos, _+ℤ_}
 use Rattle.mathematics.specs.Price.{times, whole}
-use Rattle.mathematics.specs.Lists.{All, holds, someHolds, lastOf}
+use Rattle.mathematics.specs.Lists.{All, Distinct, holds, someHolds, lastOf}
 use Rattle.mathematics.specs.Graph.{Vertex, Arc, Graph, noVertex, isStart, isEnd, joins, hasArc, linked, isPath}
 use Rattle.mathematics.specs.Cover.{Item, vert, through, Ask, vertexAsks, arcAsk, Weighted, total, totalWeight, paths, IsCover, costOf, arcCosts, price}
 use Rattle.mathematics.specs.Reach.{itemList}
+use Rattle.mathematics.specs.Range.{OneOf}
 use Rattle.mathematics.specs.Direction.{LowestPrice}
-use Rattle.mathematics.specs.Safe.{PathCover}
+use Rattle.mathematics.specs.Safe.{PathCover, Safe}
 use Rattle.mathematics.specs.Counting.{LeastPaths, Counting, countedVertex, countedArc, counting}
-use Rattle.mathematics.proofs.Basics.{or-cases, all-append, all-left, all-map, all-weaken, among-map, test}
+use Rattle.mathematics.proofs.Basics.{or-cases, all-among, all-from, all-append, all-left, all-map, all-weaken, among-map, test}
 use Rattle.mathematics.proofs.Loads.{unequal}
-use Rattle.mathematics.proofs.Merge.{merge, merge-total, merge-weight, merge-weights, merge-all, merge-distinct, some-holds}
+use Rattle.mathematics.proofs.Merge.{merge, merge-total, merge-weight, merge-length, merge-weights, merge-all, merge-distinct, merge-holds, some-holds}
+use Rattle.mathematics.proofs.Parts.{within-holds, some-held, held-some}
 use Rattle.mathematics.proofs.Reach.{through-iff-holds}
 use Rattle.mathematics.proofs.Existence.{passed-by-some}
 
@@ -63,7 +65,7 @@ asked-once k (x ∷ xs) W h m v l b = go (test (eqb k v)) (asked-once (suc k) xs
         let apart : k ≡ v → ⊥ = n in
         more (omega arith) (omega arith)
 
-once-asked : (k : ℕ) (xs : List Vertex) (W : List Weighted) → All (λ x. x .demand ≡ 1) xs →
+once-asked : (k : ℕ) (xs : List Vertex) (W : List Weighted) → All (λ x. x .demand ≤ 1) xs →
     ((v : ℕ) → k ≤ v → v < k + length xs → 1 ≤ total (vert v) W) → All (λ a. a .demand ≤ total (a .item) W) (vertexAsks k xs)
 once-asked k [] W h t = tt
 once-asked k (x ∷ xs) W h t =
@@ -111,7 +113,7 @@ module _ (H : Graph ℤ) (c : Counting H) where
       distinct = merge-distinct (map oneCopy Q);
       demands-met =
           all-append met (vertexAsks 0 (H .vertices)) (map arcAsk (H .arcs))
-          (once-asked 0 (H .vertices) (merge (map oneCopy Q)) (c .vertices-once)
+          (once-asked 0 (H .vertices) (merge (map oneCopy Q)) (all-weaken _ _ (H .vertices) (λ (x : Vertex) e. omega arith) (c .vertices-once))
           (λ v l b. rw (merge-total (vert v) (map oneCopy Q)) (total-some (vert v) Q (p .touched v (omega arith)))))
           (all-map met arcAsk (H .arcs)
           (all-weaken (λ a. (a .cost ≡ pos 0) × (a .demand ≡ 0)) (λ a. met (arcAsk a)) (H .arcs) (λ a h. let z = h .1 in omega arith) (c .arcs-free)));
@@ -259,3 +261,33 @@ module _ {E : Type 0} (G : Graph E) where
         least-paths-is-lowest-price (counting G) counting-counts k .1
         (λ most. (λ q. h most .0 (q .0, counting-covers most (q .0) .0 (q .1)), λ n. let (Q, c) = h most .1 n in (Q, counting-covers most Q .1 c))),
   )
+
+-- ---- document 01's covers are sets of distinct paths: lists with repeats make no stretch unsafe
+
+module _ {E : Type 0} (G : Graph E) (most : ℕ) where
+  pub distinct-covers-suffice : (p : List ℕ) → ((Q : List (List ℕ)) → PathCover G most Q → Distinct Q → T (someHolds Q p)) → Safe G most p
+  distinct-covers-suffice p h Q c =
+      let (q, m, w) = some-held once p (h once cover (merge-distinct (map oneCopy Q))) in
+      held-some Q p q (all-among (OneOf Q) once q members m) w
+    where
+      once : List (List ℕ)
+      once = paths (merge (map oneCopy Q))
+
+      members : All (OneOf Q) once
+      members =
+          all-map (OneOf Q) (λ (w : Weighted). w .path) (merge (map oneCopy Q))
+          (merge-all (OneOf Q) (map oneCopy Q)
+          (all-map (λ w. 1 ≤ w .weight → OneOf Q (w .path)) oneCopy Q (all-from (λ q. 1 ≤ 1 → OneOf Q q) Q (λ q m l. m))))
+
+      cover : PathCover G most once
+      cover =
+          record {
+            are-paths = all-weaken (OneOf Q) (λ q. T (isPath G q)) once (λ q m. all-among (λ q. T (isPath G q)) Q q (c .are-paths) m) members;
+            few =
+                let l = c .few in
+                omega (arith, length-map (merge (map oneCopy Q)) (λ (w : Weighted). w .path), merge-length (map oneCopy Q), length-map Q oneCopy);
+            touched =
+                λ v l.
+                let (q, m, w) = some-held Q (v ∷ []) (c .touched v l) in
+                merge-holds (v ∷ []) (oneCopy q) (map oneCopy Q) (among-map oneCopy q Q m) (omega arith) (within-holds q (v ∷ []) w);
+          }

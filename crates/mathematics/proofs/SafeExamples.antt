@@ -112,14 +112,14 @@ pub D-first-maximal : MaximalSafe D 2 (0 ∷ 1 ∷ 3 ∷ [])
 D-first-maximal =
     record {
       safe-stretch = record { some = omega arith; stretch = tt; safe = D-first-safe 2 };
-      longest = λ q s h. D-no-longer q (s .safe);
+      longest = λ q s h. let short = D-no-longer q (s .safe) in omega arith;
     }
 
 pub D-second-maximal : MaximalSafe D 2 (0 ∷ 2 ∷ 3 ∷ [])
 D-second-maximal =
     record {
       safe-stretch = record { some = omega arith; stretch = tt; safe = D-second-safe 2 };
-      longest = λ q s h. D-no-longer q (s .safe);
+      longest = λ q s h. let short = D-no-longer q (s .safe) in omega arith;
     }
 
 -- ---- a stretch of a path of a cover that another cover avoids
