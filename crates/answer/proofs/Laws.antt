@@ -8,8 +8,8 @@ use lib.ListN.{length, take, take-append-drop}
 use lib.Seq.{length-take-le}
 use borrow.Author.Tests.{eq-eqb, ne-eqb}
 use Rattle.forms.specs.declared.Verdict.{Verdict}
-use Rattle.forms.specs.GraphFaults.{refusal}
 use Rattle.forms.specs.BuildFaults.{roomAsked}
+use Rattle.forms.specs.GraphFaults.{refusal}
 use Rattle.builder.specs.declared.Built.{Built}
 use Rattle.builder.specs.Build.{BuildPromise}
 use Rattle.text.proofs.Writing.{written-nothing}

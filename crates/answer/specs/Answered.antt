@@ -7,8 +7,8 @@ use mathlib.Core.Logic.{_≢_}
 use lib.Dec.{eqb}
 use lib.ListN.{take}
 use Rattle.forms.specs.declared.Verdict.{Verdict}
-use Rattle.forms.specs.GraphFaults.{nothingRefused}
 use Rattle.forms.specs.AnswerForm.{statedPrice}
+use Rattle.forms.specs.GraphFaults.{nothingRefused}
 use Rattle.checker.specs.Check.{checkVerdict}
 use Rattle.text.specs.Text.{Writes}
 use Rattle.listing.specs.Lines.{refusedLine}

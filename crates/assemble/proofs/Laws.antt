@@ -7,8 +7,8 @@ use mathlib.Core.Logic.{_≢_}
 use lib.ListN.{length, take}
 use borrow.Author.Tests.{eq-eqb, ne-eqb}
 use Rattle.forms.specs.declared.Verdict.{Verdict}
-use Rattle.forms.specs.GraphFaults.{refusal}
 use Rattle.forms.specs.BuildFaults.{roomAsked}
+use Rattle.forms.specs.GraphFaults.{refusal}
 use Rattle.builder.specs.declared.Built.{Built}
 use Rattle.builder.specs.Build.{BuildPromise}
 use Rattle.listing.specs.declared.Listed.{Listed}

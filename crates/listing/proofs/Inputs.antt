@@ -5,8 +5,8 @@ use mathlib.Core.List.{List}
 use lib.ListN.{length}
 use borrow.Author.Tests.{lt-ltb, le-ltb}
 use Rattle.forms.specs.declared.Verdict.{Verdict}
-use Rattle.forms.specs.GraphFaults.{refusal}
 use Rattle.forms.specs.BuildFaults.{roomAsked, buildVerdict}
+use Rattle.forms.specs.GraphFaults.{refusal}
 use Rattle.listing.specs.Listing.{longestInput, inputVerdict}
 
 pub input-too-long : (s : List ℕ) → longestInput < length s → refusal 1 0 ≡ inputVerdict s

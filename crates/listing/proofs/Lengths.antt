@@ -8,6 +8,8 @@ use Rattle.mathematics.specs.Lists.{All}
 use Rattle.text.specs.Text.{decimal}
 use Rattle.text.proofs.Lengths.{decimal-few, decimal-below}
 use Rattle.listing.specs.Lines.{coverWord, pairLine, vertexTexts, pathLine, boundLine}
+use Rattle.forms.specs.Limits.{roomVertices, roomPaths}
+use Rattle.listing.specs.Listing.{longestLine}
 
 pub pair-line-length : (word : List ℕ) (a b : ℕ) → length (pairLine word a b) ≡ length word + length (decimal a) + length (decimal b) + 2
 unfolding pairLine
@@ -24,15 +26,15 @@ bound-line-length bound = simp length-append (omega arith)
 pub pair-line-few : (word : List ℕ) (a b : ℕ) → length (pairLine word a b) ≤ length word + 42
 pair-line-few word a b = omega (arith, pair-line-length word a b, decimal-few a, decimal-few b)
 
--- "paths 0..464"
-pub cover-line-few : (paths price : ℕ) → paths ≤ 464 → length (pairLine coverWord paths price) ≤ 31
+-- no more paths than a table holds
+pub cover-line-few : (paths price : ℕ) → paths ≤ roomPaths → length (pairLine coverWord paths price) ≤ 31
 cover-line-few paths price h = omega (arith, pair-line-length coverWord paths price, decimal-below 3 paths (omega arith) (omega arith), decimal-few price)
 
 pub bound-line-few : (bound : ℕ) → length (boundLine bound) ≤ 27
 bound-line-few bound = omega (arith, bound-line-length bound, decimal-few bound)
 
--- vertices below 64, a space before each
-vertices-few : (vertices : List ℕ) → All (λ v. v < 64) vertices → length (vertexTexts vertices) ≤ 3 * length vertices
+-- vertices of a form that reads, a space before each
+vertices-few : (vertices : List ℕ) → All (λ v. v < roomVertices) vertices → length (vertexTexts vertices) ≤ 3 * length vertices
 vertices-few [] h = omega arith
 vertices-few (v ∷ more) h =
     simp length-append (omega (arith, decimal-below 2 v (omega arith) (omega (arith, h .0)), vertices-few more (h .1)))
@@ -42,8 +44,8 @@ pub vertices-some : (vertices : List ℕ) → length (vertexTexts vertices) ≤ 
 vertices-some [] = omega arith
 vertices-some (v ∷ more) = simp length-append (omega (arith, decimal-few v, vertices-some more))
 
--- "weights totalling at most 320,000,016", "vertex count 1..64"
-pub path-line-few : (weight : ℕ) (vertices : List ℕ) → weight ≤ 320_000_016 → length vertices ≤ 64 → All (λ v. v < 64) vertices →
-    length (pathLine weight vertices) ≤ 202
+-- a weight of at most nine digits, no more vertices than a table holds
+pub path-line-few : (weight : ℕ) (vertices : List ℕ) → weight < 1_000_000_000 → length vertices ≤ roomVertices → All (λ v. v < roomVertices) vertices →
+    length (pathLine weight vertices) ≤ longestLine
 path-line-few weight vertices w l b =
     omega (arith, path-line-length weight vertices, decimal-below 9 weight (omega arith) (omega arith), vertices-few vertices b)

@@ -7,14 +7,15 @@ use native.Mathlib.Omega.{arith}
 use mathlib.Core.Path.{_≡_, sym, ap, _∙_}
 use mathlib.Core.List.{List, _++_}
 use lib.ListN.{length, take, drop, length-append, length-take}
-use Rattle.forms.specs.Bytes.{be32, part}
-use Rattle.forms.specs.GraphForm.{vertexCount}
 use Rattle.forms.specs.AnswerForm.{pathCount, firstPathAt, pathHeaderLength, pathLength, pathVertices, pathEnd}
+use Rattle.forms.specs.Bytes.{be32, part}
+use Rattle.forms.specs.Limits.{roomVertices, roomPaths}
 use Rattle.checker.specs.Check.{checkVerdict, pathAt, handedOut}
 use Rattle.text.specs.Text.{TextFits, Puts}
 use Rattle.text.proofs.Storing.{Still, still-all, still-next, still-none}
 use Rattle.listing.specs.Lines.{pathLine}
-use Rattle.listing.specs.Listing.{pathLines}
+use Rattle.forms.proofs.LayoutLaws.{path-length-limit, vertices-room}
+use Rattle.listing.specs.Listing.{pathLines, longestLine}
 use Rattle.listing.proofs.Accepted.{path-here, path-at-next, path-lines-next, all-lines-few}
 
 -- k of the count paths are passed, and the record of path k begins at the offset `path`
@@ -22,9 +23,9 @@ pub record Passed (s t : List ℕ) (count path k : ℕ) : Type 0 where
   pub accepted : checkVerdict s t .number ≡ 0
   pub counted : count ≡ pathCount t
   pub passed : k ≤ count
-  pub placed : path ≡ pathAt t k (firstPathAt (vertexCount s))
+  pub placed : path ≡ pathAt s t k (firstPathAt s)
 
-pub none-passed : {s t : List ℕ} {count path k : ℕ} → checkVerdict s t .number ≡ 0 → count ≡ pathCount t → path ≡ firstPathAt (vertexCount s) → k ≡ 0 →
+pub none-passed : {s t : List ℕ} {count path k : ℕ} → checkVerdict s t .number ≡ 0 → count ≡ pathCount t → path ≡ firstPathAt s → k ≡ 0 →
     Passed s t count path k
 none-passed e c p z = rw z (record { accepted = e; counted = c; passed = omega arith; placed = p })
 
@@ -33,32 +34,32 @@ module _ {s t : List ℕ} {count path k : ℕ} (l : k < count) (h : Passed s t c
   here = omega (arith, h .counted)
 
   -- the record of path k lies within the answer
-  pub path-inside : pathEnd t path ≤ length t
+  pub path-inside : pathEnd s t path ≤ length t
   path-inside = rw (h .placed) (path-here s t k (h .accepted) here .right .within)
 
   -- the bytes of its vertices are those that the checker hands out
-  pub vertices-handed : {first behind : ℕ} → first ≡ path + pathHeaderLength → behind ≡ pathEnd t path → take (behind - first) (drop first t) ≡ handedOut s t k
+  pub vertices-handed : {first behind : ℕ} → first ≡ path + pathHeaderLength s → behind ≡ pathEnd s t path → take (behind - first) (drop first t) ≡ handedOut s t k
   unfolding part
   vertices-handed {first} {behind} f b =
-      let long : behind - first ≡ pathLength t path = omega arith in
-      rw (long, f) (ap (pathVertices t) (h .placed) ∙ sym (path-here s t k (h .accepted) here .vertices))
+      let long : behind - first ≡ pathLength s t path = omega arith in
+      rw (long, f) (ap (pathVertices s t) (h .placed) ∙ sym (path-here s t k (h .accepted) here .vertices))
 
-  pub vertices-few : {first behind : ℕ} → first ≡ path + pathHeaderLength → behind ≡ pathEnd t path → length (take (behind - first) (drop first t)) ≤ 64
+  pub vertices-few : {first behind : ℕ} → first ≡ path + pathHeaderLength s → behind ≡ pathEnd s t path → length (take (behind - first) (drop first t)) ≤ roomVertices
   vertices-few {first} {behind} f b =
-      rw length-take (omega (arith, path-here s t k (h .accepted) here .right .few-vertices, ap (pathLength t) (h .placed)))
+      rw length-take (omega (arith, path-here s t k (h .accepted) here .right .few-vertices, ap (pathLength s t) (h .placed), path-length-limit s, vertices-room s))
 
   -- its line is the next of those that are left
   pub lines-next : (weight : ℕ) (vertices : List ℕ) → weight ≡ be32 t path → vertices ≡ handedOut s t k →
       pathLines s t (pathCount t - k) k ≡ pathLine weight vertices ++ pathLines s t (pathCount t - (k + 1)) (k + 1)
   lines-next weight vertices w v = rw (w, v, h .placed) (path-lines-next s t (pathCount t) k here)
 
-  pub one-passed : {behind : ℕ} → behind ≡ pathEnd t path → Passed s t count behind (k + 1)
+  pub one-passed : {behind : ℕ} → behind ≡ pathEnd s t path → Passed s t count behind (k + 1)
   one-passed e =
       record {
         accepted = h .accepted;
         counted = h .counted;
         passed = omega arith;
-        placed = e ∙ (ap (pathEnd t) (h .placed) ∙ sym (rw add-one (path-at-next t k (firstPathAt (vertexCount s)))));
+        placed = e ∙ (ap (pathEnd s t) (h .placed) ∙ sym (rw add-one (path-at-next s t k (firstPathAt s))));
       }
 
 -- Storing: the lines of the passed paths are stored, the others are still to be.
@@ -93,7 +94,7 @@ bytes-next {s} {t} {k = k} l p bytes more weight vertices w v m h =
     omega (arith, next, length-append (pathLine weight vertices) (pathLines s t (pathCount t - (k + 1)) (k + 1)))
 
 -- no more bytes are counted than the lines can have
-pub bytes-few : {s t : List ℕ} {count path k : ℕ} → Passed s t count path k → (bytes j : ℕ) → BytesLeft s t bytes j → bytes ≤ 93_728
+pub bytes-few : {s t : List ℕ} {count path k : ℕ} → Passed s t count path k → (bytes j : ℕ) → BytesLeft s t bytes j → bytes ≤ longestLine * roomPaths
 bytes-few {s} {t} p bytes j h = omega (arith, all-lines-few s t (p .accepted))
 
 pub bytes-end : {s t : List ℕ} {count path k : ℕ} → count ≤ k → Passed s t count path k → (bytes : ℕ) → BytesLeft s t bytes k →

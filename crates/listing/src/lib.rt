@@ -3,13 +3,14 @@ mod lines;
 
 use checker::check::check;
 use checker::reader::read_graph;
+use forms::Answer;
+use forms::Graph;
 use forms::fields::first_path_at;
 use forms::fields::path_count;
 use forms::fields::path_end;
 use forms::fields::path_vertices_at;
 use forms::fields::path_weight;
 use forms::fields::stated_price;
-use forms::fields::vertex_count;
 use lines::bound_line_length;
 use lines::pair_line_length;
 use lines::path_line_length;
@@ -26,7 +27,7 @@ ghost use Rattle.listing.specs.Lines.{refusedLine};
 ghost use Rattle.listing.specs.Listing.{pathLines, coverListing, listingOf, longestInput, inputsListing, longestListing, Lists};
 
 // No listing has more bytes: an output of so many takes every text that is listed.
-pub const LONGEST_LISTING: usize = 93_786;
+pub const LONGEST_LISTING: usize = 58 + (10 + 3 * Graph::ROOM_VERTICES) * Answer::ROOM_PATHS;
 
 // No longer input is looked at.
 pub const LONGEST_INPUT: usize = 65_536;
@@ -45,12 +46,12 @@ fn put_paths(graph: &[u8], answer: &[u8], out: &mut [u8], at: usize) -> usize
     ensures { λ r. ⌜ Puts (now (out .entry)) at (pathLines (now (graph .entry)) (now (answer .entry)) (pathCount (now (answer .entry))) 0) (now (out .exit)) r ⌝ }
 {
     let count = path_count(answer);
-    let mut path = first_path_at(vertex_count(graph));
+    let mut path = first_path_at(graph);
     let mut end = at;
     let mut k = 0;
     while k < count {
-        let first = path_vertices_at(path);
-        let behind = path_end(answer, path);
+        let first = path_vertices_at(graph, path);
+        let behind = path_end(graph, answer, path);
         end = put_path_line(out, end, path_weight(answer, path), &answer[first..behind]);
         path = behind;
         k += 1;
@@ -65,12 +66,12 @@ fn paths_length(graph: &[u8], answer: &[u8]) -> usize
     ensures small { λ r. ⌜ r ≤ longestListing ⌝ }
 {
     let count = path_count(answer);
-    let mut path = first_path_at(vertex_count(graph));
+    let mut path = first_path_at(graph);
     let mut bytes = 0;
     let mut passed = 0;
     while passed < count {
-        let first = path_vertices_at(path);
-        let behind = path_end(answer, path);
+        let first = path_vertices_at(graph, path);
+        let behind = path_end(graph, answer, path);
         bytes += path_line_length(path_weight(answer, path), &answer[first..behind]);
         path = behind;
         passed += 1;
@@ -85,7 +86,7 @@ fn put_cover(graph: &[u8], answer: &[u8], out: &mut [u8]) -> usize
     ensures { λ r. ⌜ Puts (now (out .entry)) 0 (coverListing (now (graph .entry)) (now (answer .entry))) (now (out .exit)) r ⌝ }
 {
     let count = path_count(answer);
-    let price = stated_price(answer);
+    let price = stated_price(graph, answer);
     let first = put_pair_line(out, 0, b"cover ", count, price);
     let last = put_paths(graph, answer, out, first);
     put_bound_line(out, last, price)
@@ -97,7 +98,7 @@ fn cover_length(graph: &[u8], answer: &[u8]) -> usize
     ensures { λ r. ⌜ r ≡ length (coverListing (now (graph .entry)) (now (answer .entry))) ⌝ }
 {
     let count = path_count(answer);
-    let price = stated_price(answer);
+    let price = stated_price(graph, answer);
     pair_line_length(b"cover ", count, price)
         + paths_length(graph, answer)
         + bound_line_length(price)

@@ -2,9 +2,7 @@
 -- Assumes nothing.
 use Prim.Native.Nat.{_-_}
 use native.Mathlib.Omega.{arith}
-use mathlib.Core.Path.{ap, _∙_}
 use borrow.Author.Needs.{needs}
-use Rattle.forms.specs.AnswerForm.{firstPathAt}
 use Rattle.listing.proofs.Accepted.{graph-long, answer-long}
 use Rattle.listing.proofs.PathLines.{Passed, none-passed, path-inside, vertices-handed, vertices-few, one-passed, BytesLeft, bytes-start, bytes-next, bytes-few, bytes-end}
 use Rattle.listing.proofs.paths_length.Statement.{statement}
@@ -19,16 +17,13 @@ abbrev μ-loop : tie.MeasureT-loop
 path-count-requires : tie.Need-path-count-requires Inv-loop μ-loop
 path-count-requires c κs = omega (arith, answer-long _ _ (c .before .before .pre))
 
-vertex-count-requires : tie.Need-vertex-count-requires Inv-loop μ-loop
-vertex-count-requires c κs = graph-long _ _ (c .before .before .before .pre)
-
 first-path-at-requires : tie.Need-first-path-at-requires Inv-loop μ-loop
-first-path-at-requires c κs = omega arith
+first-path-at-requires c κs = graph-long _ _ (c .before .before .before .pre)
 
 loop-holds : tie.Need-loop-holds Inv-loop μ-loop
 loop-holds c =
-    let s = c .before .before .before .before .before in (
-      none-passed (s .pre) (c .before .before .path-count .ensures .0) (c .first-path-at .ensures ∙ ap firstPathAt (c .before .vertex-count .ensures .0)) (omega arith),
+    let s = c .before .before .before .before in (
+      none-passed (s .pre) (c .before .path-count .ensures .0) (c .first-path-at .ensures .0) (omega arith),
       bytes-start _ _ (omega arith) (omega arith),
     )
 
@@ -90,7 +85,6 @@ paths-length-spec =
     Inv-loop
     μ-loop
     path-count-requires
-    vertex-count-requires
     first-path-at-requires
     loop-holds
     path-vertices-at-requires

@@ -2,11 +2,9 @@
 -- Assumes nothing.
 use Prim.Native.Nat.{_-_}
 use native.Mathlib.Omega.{arith}
-use mathlib.Core.Path.{ap, _∙_}
 use lib.ListN.{take, drop}
 use denote.Ref.{now}
 use borrow.Author.Needs.{needs}
-use Rattle.forms.specs.AnswerForm.{firstPathAt}
 use Rattle.text.proofs.Storing.{Still, still-next, still-room}
 use Rattle.listing.specs.Lines.{pathLine}
 use Rattle.listing.proofs.Accepted.{graph-long, answer-long}
@@ -23,16 +21,13 @@ abbrev μ-loop : tie.MeasureT-loop
 path-count-requires : tie.Need-path-count-requires Inv-loop μ-loop
 path-count-requires c κs = omega (arith, answer-long _ _ (c .before .before .before .pre .0))
 
-vertex-count-requires : tie.Need-vertex-count-requires Inv-loop μ-loop
-vertex-count-requires c κs = graph-long _ _ (c .before .before .before .before .pre .0)
-
 first-path-at-requires : tie.Need-first-path-at-requires Inv-loop μ-loop
-first-path-at-requires c κs = omega arith
+first-path-at-requires c κs = graph-long _ _ (c .before .before .before .before .pre .0)
 
 loop-holds : tie.Need-loop-holds Inv-loop μ-loop
 loop-holds c =
-    let s = c .before .before .before .before .before .before in (
-      none-passed (s .pre .0) (c .before .before .path-count .ensures .0) (c .first-path-at .ensures ∙ ap firstPathAt (c .before .vertex-count .ensures .0)) (omega arith),
+    let s = c .before .before .before .before .before in (
+      none-passed (s .pre .0) (c .before .path-count .ensures .0) (c .first-path-at .ensures .0) (omega arith),
       lines-start _ _ (s .pre .1) (omega arith),
     )
 
@@ -94,7 +89,6 @@ put-paths-spec =
     Inv-loop
     μ-loop
     path-count-requires
-    vertex-count-requires
     first-path-at-requires
     loop-holds
     path-vertices-at-requires
