@@ -6,13 +6,16 @@ use mathlib.Core.Path.{_≡_, refl, sym, ap, _∙_}
 use mathlib.Core.List.{List, []}
 use mathlib.Core.Bool.{Bool, true, false, cond}
 use lib.Dec.{ltb}
-use lib.ListN.{length, take, drop}
+use lib.ListN.{length, drop, length-drop}
+use lib.Seq.{length-take-le}
 use borrow.Author.Tests.{lt-ltb, le-ltb, ltb-true, eq-eqb, ne-eqb}
+use Rattle.forms.specs.declared.Verdict.{Verdict}
 use Rattle.forms.specs.Bytes.{part}
 use Rattle.forms.specs.GraphForm.{vertexCount}
 use Rattle.forms.specs.GraphFaults.{refusal, nothingRefused}
-use Rattle.forms.specs.AnswerForm.{pathCount, firstPathAt, pathHeaderLength, pathLength, pathEnd, pathVertices}
-use Rattle.checker.specs.Check.{checkVerdict, handOutVerdict, pathAt, handedOut}
+use Rattle.forms.specs.AnswerForm.{pathCount, firstPathAt, pathHeaderLength, pathLength, pathEnd}
+use Rattle.checker.specs.Check.{checkVerdict, handOutVerdict, pathAt, handedOut, handedOutAt}
+use Rattle.checker.specs.HandedOut.{PartFound}
 use Rattle.checker.specs.Tallies.{PathsStand}
 use Rattle.checker.specs.Accepted.{PathsRight, Accepted}
 use Rattle.checker.proofs.Accepted.{earlier-first, number-zero-accepted}
@@ -77,15 +80,23 @@ paths-stand s t (suc count) at before copies (suc k) p h = (p .0 .within, paths-
 pub stands-to : {s t : List ℕ} {k : ℕ} → HasPath s t k → PathsStand t (k + 1) (firstPathAt (vertexCount s))
 stands-to {s} {t} {k} h = rw (add-one k) (paths-stand s t (pathCount t) (firstPathAt (vertexCount s)) [] 0 k (h .accepted .paths) (h .below))
 
--- the empty part, and the part that is path k
-pub nothing-handed : (s t : List ℕ) (k : ℕ) → (handOutVerdict s t k .number ≡ 0 → ⊥) → [] ≡ handedOut s t k
-unfolding handedOut
-nothing-handed s t k h = simp (ne-eqb (handOutVerdict s t k .number) 0 h)
+-- nothing is handed out: the empty part at the answer's front
+pub nothing-found : (s t : List ℕ) (k : ℕ) {v : Verdict} {start count : ℕ} → v ≡ handOutVerdict s t k → (v .number ≡ 0 → ⊥) → start ≡ 0 → count ≡ 0 →
+    PartFound s t k (v .number) (v .place) start count
+unfolding handedOut handedOutAt
+nothing-found s t k e n front none =
+    let refused = ne-eqb (handOutVerdict s t k .number) 0 (λ z. n (ap (λ (w : Verdict). w .number) e ∙ z)) in
+    record { verdict = e; begins = front ∙ simp refused; long = none ∙ simp refused }
 
-pub path-handed : (s t : List ℕ) (k : ℕ) {n from at start end : ℕ} → handOutVerdict s t k .number ≡ 0 → n ≡ vertexCount s → from ≡ firstPathAt n → at ≡ pathAt t k from →
-    start ≡ at + pathHeaderLength → end ≡ pathEnd t at → take (end - start) (drop start t) ≡ handedOut s t k
-unfolding handedOut part
-path-handed s t k {n} {from} {at} {start} {end} h counted first e begins ends =
-    let long : end - start ≡ pathLength t at = omega arith in
-    let here : at ≡ pathAt t k (firstPathAt (vertexCount s)) = e ∙ ap (pathAt t k) (first ∙ ap firstPathAt counted) in
-    simp (eq-eqb (handOutVerdict s t k .number) 0 h) (rw (long, begins) (ap (pathVertices t) here))
+-- path k is handed out: its vertices stand behind the header of its record, which lies within the answer
+pub path-found : (s t : List ℕ) (k : ℕ) {v : Verdict} {n from at start count : ℕ} → v ≡ handOutVerdict s t k → v .number ≡ 0 → n ≡ vertexCount s → from ≡ firstPathAt n →
+    at ≡ pathAt t k from → pathEnd t at ≤ length t → start ≡ at + pathHeaderLength → count ≡ pathLength t at → PartFound s t k (v .number) (v .place) start count
+unfolding handedOut handedOutAt part
+path-found s t k {v} {n} {from} {at} {start} {count} d h counted first e within begins long =
+    let passed = eq-eqb (handOutVerdict s t k .number) 0 (ap (λ (w : Verdict). w .number) (sym d) ∙ h) in
+    let here : pathAt t k (firstPathAt (vertexCount s)) ≡ at = sym (e ∙ ap (pathAt t k) (first ∙ ap firstPathAt counted)) in
+    record {
+      verdict = d;
+      begins = begins ∙ simp (passed, here);
+      long = long ∙ simp (passed, here, length-take-le (pathLength t at) (drop (at + pathHeaderLength) t) (simp length-drop (omega arith)));
+    }

@@ -7,6 +7,7 @@ use mathlib.Core.List.{List, [], _∷_}
 use mathlib.Core.Bool.{Bool, true, false, cond, not, _&&_, _||_}
 use mathlib.Core.Logic.{_⊎_, inl, inr}
 use lib.Dec.{T, ltb, leb, eqb, leb→le}
+use denote.Ref.{RefT, ptr, now}
 use borrow.Author.Tests.{eq-eqb, lt-ltb}
 use Rattle.mathematics.proofs.Basics.{and-l, and-r}
 use lib.ListN.{length}
@@ -24,7 +25,9 @@ use Rattle.forms.specs.GraphOf.{graphOf}
 use Rattle.forms.specs.GraphFaults.{refusal, nothingRefused, orElse, allBelow, graphVerdict}
 use Rattle.forms.specs.AnswerForm.{answerLengthWord, answerVersion, pathCount, statedPrice, markLength, inMarkAt, signed32, marksOf, firstPathAt, pathHeaderLength, pathWeight, pathLength, pathVertices, pathEnd, coverOf}
 use Rattle.forms.specs.AnswerFaults.{answerHeaderVerdict, markFault, marksVerdict, listBefore, pathFault, pathsVerdict}
-use Rattle.checker.specs.Check.{samePrice, demandsVerdict, readsMetVerdict, vertexSlacksVerdict, arcSlacksVerdict, certificateVerdict, answerVerdict, checkVerdict, handOutVerdict, handedOut}
+use Rattle.checker.specs.Check.{samePrice, demandsVerdict, readsMetVerdict, vertexSlacksVerdict, arcSlacksVerdict, certificateVerdict, answerVerdict, checkVerdict, handOutVerdict, handedOut, handedOutAt}
+use Rattle.checker.specs.HandedOut.{PartFound}
+use Rattle.checker.specs.declared.check.PathPart.{PathPart}
 use Rattle.checker.proofs.GraphReads.{number-to-seven}
 use Rattle.checker.proofs.Accepted.{number-zero-accepted, accepted-nothing-refused}
 use Rattle.checker.proofs.HandedOut.{number-zero-handed-out}
@@ -37,9 +40,22 @@ check-determined s t r r′ e d = e ∙ sym d
 pub hand-out-verdict-determined : (s t : List ℕ) (k : ℕ) (r r′ : Verdict) → r ≡ handOutVerdict s t k → r′ ≡ handOutVerdict s t k → r ≡ r′
 hand-out-verdict-determined s t k r r′ e d = e ∙ sym d
 
--- the part handed out
-pub hand-out-determined : (s t : List ℕ) (k : ℕ) (p p′ : List ℕ) → p ≡ handedOut s t k → p′ ≡ handedOut s t k → p ≡ p′
-hand-out-determined s t k p p′ e d = e ∙ sym d
+-- the part by numbers
+pub find-path-determined : (s t : List ℕ) (k : ℕ) (r r′ : PathPart) → PartFound s t k (r .number) (r .place) (r .offset) (r .length) →
+    PartFound s t k (r′ .number) (r′ .place) (r′ .offset) (r′ .length) → r ≡ r′
+find-path-determined s t k r r′ e d =
+    let v : refusal (r .number) (r .place) ≡ refusal (r′ .number) (r′ .place) = e .verdict ∙ sym (d .verdict) in
+    let offsets : r .offset ≡ r′ .offset = e .begins ∙ sym (d .begins) in
+    let lengths : r .length ≡ r′ .length = e .long ∙ sym (d .long) in
+    λ i. record { number = v i .number; place = v i .place; offset = offsets i; length = lengths i }
+
+-- the part handed out: its bytes, and its place in memory, which is a block and an offset. The clauses are those of the call
+pub hand-out-determined : (s : List ℕ) (answer r r′ : RefT (List ℕ)) (k : ℕ) →
+    now r ≡ handedOut s (now answer) k → (ptr r .0 ≡ ptr answer .0) × (ptr r .1 ≡ ptr answer .1 + handedOutAt s (now answer) k) →
+    now r′ ≡ handedOut s (now answer) k → (ptr r′ .0 ≡ ptr answer .0) × (ptr r′ .1 ≡ ptr answer .1 + handedOutAt s (now answer) k) →
+    (now r ≡ now r′) × (ptr r ≡ ptr r′)
+hand-out-determined s answer r r′ k e at d at′ =
+    (e ∙ sym d, λ i. ((at .0 ∙ sym (at′ .0)) i, (at .1 ∙ sym (at′ .1)) i))
 
 -- "both are 0 where nothing is refused"
 pub check-place-zero : (s t : List ℕ) → checkVerdict s t .number ≡ 0 → checkVerdict s t .place ≡ 0

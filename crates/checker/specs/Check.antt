@@ -15,7 +15,7 @@ use Rattle.forms.specs.declared.Verdict.{Verdict}
 use Rattle.forms.specs.GraphForm.{vertexCount}
 use Rattle.forms.specs.GraphOf.{graphOf}
 use Rattle.forms.specs.GraphFaults.{refusal, nothingRefused, graphVerdict}
-use Rattle.forms.specs.AnswerForm.{pathCount, statedPrice, inMarkAt, marksOf, firstPathAt, pathVertices, pathEnd, coverOf}
+use Rattle.forms.specs.AnswerForm.{pathCount, statedPrice, inMarkAt, marksOf, firstPathAt, pathHeaderLength, pathVertices, pathEnd, coverOf}
 use Rattle.forms.specs.AnswerFaults.{answerHeaderVerdict, marksVerdict, pathsVerdict}
 
 -- the two prices are equal: neither is above the other
@@ -85,3 +85,8 @@ pathAt t (suc k) at = pathAt t k (pathEnd t at)
 unfoldable pub handedOut : List ℕ → List ℕ → ℕ → List ℕ
 handedOut s t k =
     cond (eqb (handOutVerdict s t k .number) 0) (pathVertices t (pathAt t k (firstPathAt (vertexCount s)))) []
+
+-- where in the answer this part begins: behind the weight and the vertex count of path k; an empty part is at the answer's front
+unfoldable pub handedOutAt : List ℕ → List ℕ → ℕ → ℕ
+handedOutAt s t k =
+    cond (eqb (handOutVerdict s t k .number) 0) (pathAt t k (firstPathAt (vertexCount s)) + pathHeaderLength) 0

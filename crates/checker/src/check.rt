@@ -12,12 +12,14 @@ use forms::arcs::first_arcs;
 use forms::fields::first_path_at;
 use forms::fields::path_count;
 use forms::fields::path_end;
+use forms::fields::path_length;
 use forms::fields::path_vertices_at;
 use forms::fields::stated_price;
 use forms::fields::vertex_count;
 ghost use mathlib.Core.Path.{_≡_};
 ghost use mathlib.Core.List.{[]};
 ghost use Prim.Native.Nat.{_+_, _≤_};
+ghost use denote.Ref.{ptr};
 ghost use lib.ListN.{length};
 ghost use lib.IntN.{pos};
 ghost use Rattle.mathematics.specs.Price.{whole};
@@ -29,7 +31,8 @@ ghost use Rattle.forms.specs.AnswerForm.{statedPrice, pathCount, marksOf, first
 ghost use Rattle.forms.specs.AnswerFaults.{pathsVerdict};
 ghost use Rattle.checker.specs.Tallies.{Tallied, PathsStand};
 ghost use Rattle.certify.specs.Certify.{MarksStand};
-ghost use Rattle.checker.specs.Check.{certificateVerdict, answerVerdict, checkVerdict, handOutVerdict, pathAt, handedOut};
+ghost use Rattle.checker.specs.Check.{certificateVerdict, answerVerdict, checkVerdict, handOutVerdict, pathAt, handedOut, handedOutAt};
+ghost use Rattle.checker.specs.HandedOut.{PartFound};
 
 // Numbers 19 to 22, in that order, of paths that are tallied.
 fn certificate_verdict(
@@ -134,16 +137,46 @@ fn path_at(t: &[u8], from: usize, k: usize) -> usize
     at
 }
 
-// The vertex bytes of path k, a part of the answer; the empty part where the answer is refused or has no path k.
-pub fn hand_out<'a>(graph: &[u8], answer: &'a [u8], k: usize) -> &'a [u8]
-    ensures { λ r. ⌜ now r ≡ handedOut (now (graph .entry)) (now (answer .entry)) k ⌝ }
+// What asking for path k gives: number and place of the refusal, or 0 and 0; and where in the answer the path's vertices stand and how many
+// they are, both 0 where the answer is refused or has no path k.
+pub struct PathPart {
+    pub number: usize,
+    pub place: usize,
+    pub offset: usize,
+    pub length: usize,
+}
+
+// Checks the answer, once, and finds the vertex bytes of path k in it.
+pub fn find_path(graph: &[u8], answer: &[u8], k: usize) -> PathPart
+    ensures { λ r. ⌜ PartFound (now (graph .entry)) (now (answer .entry)) k (r .number) (r .place) (r .offset) (r .length) ⌝ }
 {
     let verdict = hand_out_verdict(graph, answer, k);
     if verdict.number != 0 {
-        return &answer[0..0];
+        return PathPart {
+            number: verdict.number,
+            place: verdict.place,
+            offset: 0,
+            length: 0,
+        };
     }
     let at = path_at(answer, first_path_at(vertex_count(graph)), k);
     let start = path_vertices_at(at);
-    let end = path_end(answer, at);
+    let count = path_length(answer, at);
+    PathPart {
+        number: verdict.number,
+        place: verdict.place,
+        offset: start,
+        length: count,
+    }
+}
+
+// The vertex bytes of path k, a part of the answer; the empty part at its front where the answer is refused or has no path k.
+pub fn hand_out<'a>(graph: &[u8], answer: &'a [u8], k: usize) -> &'a [u8]
+    ensures bytes { λ r. ⌜ now r ≡ handedOut (now (graph .entry)) (now (answer .entry)) k ⌝ }
+    ensures place { λ r. ⌜ (ptr r .0 ≡ ptr (answer .entry) .0) × (ptr r .1 ≡ ptr (answer .entry) .1 + handedOutAt (now (graph .entry)) (now (answer .entry)) k) ⌝ }
+{
+    let found = find_path(graph, answer, k);
+    let start = found.offset;
+    let end = start + found.length;
     &answer[start..end]
 }

@@ -2,7 +2,7 @@
 use borrow.Author.Needs.{needs}
 use Prim.Native.Nat.{_+_, _≤_, _-_}
 use native.Mathlib.Omega.{arith}
-use mathlib.Core.Path.{_≡_, refl, sym, ap, subst, _∙_}
+use mathlib.Core.Path.{_≡_, sym, ap, subst, _∙_}
 use Rattle.forms.specs.GraphForm.{vertexAt, arcAt}
 use Rattle.forms.specs.GraphReads.{ArcRight}
 use Rattle.reach.proofs.ReachLaws.{its-place}
@@ -48,7 +48,7 @@ new-requires : tie.Need-new-requires Inv-loop μ-loop
 new-requires c κs = search needs
 
 returns : tie.Need-returns Inv-loop μ-loop
-returns c = c .new .ensures ∙ scan-stops _ _ _ (c .before .before .before .before .loop .a) _ _ (c .before .before .before .before .loop .inv .2) (search needs) (c .before .before .arc-lacks .ensures ∙ ap (λ i. lacks (graphOf (c .before .before .before .before .before .before .args .s .now)) (recordAsk (c .before .before .before .before .before .before .args .s .now) i)) (sym (its-place (c .before .before .before .before .before .before .pre .1) (c .before .before .before .before .loop .a)))) (search needs) refl
+returns c = c .new .ensures ∙ scan-stops _ _ _ (c .before .before .before .before .loop .a) _ _ (c .before .before .before .before .loop .inv .2) (search needs) (c .before .before .arc-lacks .ensures ∙ ap (λ i. lacks (graphOf (c .before .before .before .before .before .before .args .s .now)) (recordAsk (c .before .before .before .before .before .before .args .s .now) i)) (sym (its-place (c .before .before .before .before .before .before .pre .1) (c .before .before .before .before .loop .a)))) (search needs) (search needs)
 
 add-a : tie.Need-add-a Inv-loop μ-loop
 add-a c = omega (arith, c .before .before .before .before .before .pre .1 .reads .arcs .header .few-arcs)
