@@ -1,5 +1,5 @@
 -- What the listing uses of an accepted answer: each path's record lies within the answer, its vertices are those handed out, the stated price is the
--- price and the bound, and the whole listing has room.
+-- price and the bound, and how long the whole listing is at the most.
 use Prim.Native.Nat.{ℕ, zero, suc, _+_, _-_, _*_, _≤_, _<_}
 use native.Mathlib.Numerals.{add-one}
 use native.Mathlib.Omega.{arith}
@@ -24,9 +24,10 @@ use Rattle.checker.proofs.GraphReads.{number-zero-iff-reads}
 use Rattle.checker.specs.Accepted.{PathRight, PathsRight}
 use Rattle.checker.proofs.Accepted.{number-zero-accepted}
 use Rattle.checker.proofs.Soundness.{accepted-is-lowest}
-use Rattle.listing.specs.Text.{coverWord, pairLine, pathLine, boundLine}
-use Rattle.listing.specs.Listing.{weightOf, pathLines, coverListing, room}
-use Rattle.listing.proofs.Storing.{Still, still-all}
+use Rattle.text.specs.Text.{TextFits}
+use Rattle.text.proofs.Storing.{Still, still-all}
+use Rattle.listing.specs.Lines.{coverWord, pairLine, pathLine, boundLine}
+use Rattle.listing.specs.Listing.{weightOf, pathLines, coverListing, longestListing}
 use Rattle.listing.proofs.Lengths.{cover-line-few, bound-line-few, path-line-few}
 
 -- "bound differs from the price", "stated price differs from the paths' price": in an accepted answer they do not
@@ -89,10 +90,14 @@ lines-few s t zero k e l = omega arith
 lines-few s t (suc count) k e l =
     simp length-append (omega (arith, line-few s t k e (omega arith), lines-few s t count (suc k) e (omega arith)))
 
--- a listing has at most as many bytes as `room` says
-pub listing-few : (s t : List ℕ) → checkVerdict s t .number ≡ 0 → length (coverListing s t) ≤ room
+-- the lines of all paths
+pub all-lines-few : (s t : List ℕ) → checkVerdict s t .number ≡ 0 → length (pathLines s t (pathCount t) 0) ≤ 93_728
+all-lines-few s t e = omega (arith, number-zero-accepted s t e .header .few-paths, lines-few s t (pathCount t) 0 e (omega arith))
+
+-- a cover's listing has at most as many bytes as `longestListing` says
+pub cover-listing-few : (s t : List ℕ) → checkVerdict s t .number ≡ 0 → length (coverListing s t) ≤ longestListing
 unfolding coverListing
-listing-few s t e =
+cover-listing-few s t e =
     let few = number-zero-accepted s t e .header .few-paths in
     let P = natAbs (price whole (graphOf s) (coverOf (vertexCount s) t)) in
     let B = natAbs (bound whole (graphOf s) (marksOf t)) in
@@ -101,7 +106,7 @@ listing-few s t e =
       length-append (pairLine coverWord (pathCount t) P) (pathLines s t (pathCount t) 0 ++ boundLine B),
       length-append (pathLines s t (pathCount t) 0) (boundLine B),
       cover-line-few (pathCount t) P few,
-      lines-few s t (pathCount t) 0 e (omega arith),
+      all-lines-few s t e,
       bound-line-few B,
     )
 
@@ -118,7 +123,17 @@ listing-parts : (s t : List ℕ) (count stated : ℕ) → checkVerdict s t .numb
 unfolding coverListing
 listing-parts s t count stated e c p = rw (c, p, price-is-stated s t e, bound-is-stated s t e)
 
-pub listing-begins : (s t out : List ℕ) (count stated : ℕ) → checkVerdict s t .number ≡ 0 → room ≤ length out → count ≡ pathCount t → stated ≡ statedPrice t →
+pub listing-begins : (s t out : List ℕ) (count stated : ℕ) → checkVerdict s t .number ≡ 0 → TextFits out 0 (coverListing s t) → count ≡ pathCount t →
+    stated ≡ statedPrice t →
     Still out 0 (coverListing s t) out 0 (pairLine coverWord count stated ++ (pathLines s t (pathCount t) 0 ++ boundLine stated))
-listing-begins s t out count stated e h c p =
-    subst (Still out 0 (coverListing s t) out 0) (listing-parts s t count stated e c p) (still-all (omega (arith, listing-few s t e)))
+listing-begins s t out count stated e h c p = subst (Still out 0 (coverListing s t) out 0) (listing-parts s t count stated e c p) (still-all h)
+
+-- the bytes of its parts together
+pub listing-counted : (s t : List ℕ) (count stated : ℕ) → checkVerdict s t .number ≡ 0 → count ≡ pathCount t → stated ≡ statedPrice t →
+    length (coverListing s t) ≡ length (pairLine coverWord count stated) + length (pathLines s t (pathCount t) 0) + length (boundLine stated)
+listing-counted s t count stated e c p = rw (listing-parts s t count stated e c p) (simp length-append (omega arith))
+
+-- its last line tells the stated price
+pub bound-next : {before : List ℕ} {start : ℕ} {text out : List ℕ} {at bound stated : ℕ} → bound ≡ stated → Still before start text out at (boundLine stated) →
+    Still before start text out at (boundLine bound)
+bound-next e h = rw e h
