@@ -24,7 +24,7 @@ import make_reader_vectors
 from cases import D, D_ANSWER, D_WITH_3, D_WITH_3_ANSWER, L, L_ANSWER, X, X_ANSWER
 from damage import damaged, every_single, with_length
 from exists import refusal_of_builder
-from forms import LONGEST_ANSWER, Answer, Refused, accept, check, encode_answer, encode_graph, hand_out, read_graph
+from forms import LONGEST_ANSWER, Answer, Refused, accept, check, decode_answer, decode_graph, encode_answer, encode_graph, hand_out, read_graph
 from generate import LISTS, make
 from network import solve
 
@@ -42,8 +42,10 @@ def part(data):
     return len(data).to_bytes(4, "big") + data
 
 
-def vertices_at(graph, answer, k):
-    """Where in the form of an accepted answer the vertices of path k stand: behind the header, the marks, the paths before and its own head."""
+def vertices_at(graph_form, answer_form, k):
+    """Where the vertices of path k stand in an answer form: behind the header, the marks, the paths before and its own weight and count."""
+    graph = decode_graph(graph_form)
+    answer = decode_answer(answer_form, graph)
     return 15 + 8 * len(graph.vertices) + sum(5 + len(path) for _, path in answer.paths[:k]) + 5
 
 
@@ -65,7 +67,7 @@ class Batch:
 
     def add_hand_out(self, name, graph, answer, k):
         number, place, path = hand_out(graph, answer, k)
-        offset = 0 if number else vertices_at(*accept(graph, answer), k)
+        offset = 0 if number else vertices_at(graph, answer, k)
         self.add(name, b"h" + part(graph) + part(answer) + k.to_bytes(8, "big"), equals((number, place, offset, len(path), path.hex() or "-")))
 
     def add_build(self, name, graph, room, keep):

@@ -26,7 +26,7 @@ BUILD = """
 
 # What a hand-out's body ends with.
 PART = """
-    HandedOutPart { number: found.number as u64, place: found.place as u64, offset, length: found.length as u64 }
+    HandedOutPart { number: found.number as u64, place: found.place as u64, offset: found.offset as u64, length: found.length as u64 }
 """
 
 # What is wrong, the call, and its new body, with the functions that this needs behind it.
@@ -60,15 +60,15 @@ WRONG = [
 """),
     ("a hand-out that always gives the first path", "hand_out_path", """
     let found = checker::check::find_path(graph, answer, 0);
-    let offset = found.offset as u64;
 """ + PART),
     ("a hand-out of a single vertex from another byte of the same value", "hand_out_path", """
     let found = checker::check::find_path(graph, answer, k as usize);
     let at = found.offset;
-    let mut offset = at as u64;
-    if found.length == 1 && at < answer.len() {
-        if answer[0] == answer[at] {
-            offset = 0;
+    if found.length == 1 {
+        if at < answer.len() {
+            if answer[0] == answer[at] {
+                return HandedOutPart { number: 0, place: 0, offset: 0, length: 1 };
+            }
         }
     }
 """ + PART),
