@@ -14,14 +14,14 @@ use Rattle.mathematics.specs.Cover.{price}
 use Rattle.mathematics.specs.Bound.{bound}
 use Rattle.mathematics.proofs.Basics.{and-l, and-r, is-true, all-weaken}
 use Rattle.mathematics.proofs.PriceKinds.{whole-ordered}
-use Rattle.forms.specs.AnswerForm.{pathCount, statedPrice, answerMarks, firstPathAt, pathWeight, pathVertices, pathEnd, coverOf}
+use Rattle.forms.specs.AnswerForm.{answerHeaderLength, pathCount, statedPrice, answerMarks, firstPathAt, pathWeight, pathVertices, pathEnd, coverOf}
 use Rattle.forms.specs.Bytes.{part}
 use Rattle.forms.specs.GraphForm.{headerLength, vertexCount}
 use Rattle.forms.specs.GraphOf.{graphOf}
 use Rattle.forms.specs.Limits.{roomVertices, roomPaths}
 use Rattle.checker.specs.Check.{checkVerdict, handOutVerdict, pathAt, handedOut}
 use Rattle.forms.proofs.RightLaws.{below-all}
-use Rattle.forms.proofs.LayoutLaws.{max-weight-is, path-length-limit, vertices-room, paths-room}
+use Rattle.forms.proofs.LayoutLaws.{mark-long, max-weight-is, path-length-limit, vertices-room, paths-room}
 use Rattle.checker.proofs.GraphReads.{number-zero-iff-reads}
 use Rattle.checker.specs.Accepted.{PathRight, PathsRight}
 use Rattle.checker.proofs.Accepted.{number-zero-accepted}
@@ -47,8 +47,8 @@ bound-is-stated s t e =
 pub graph-long : (s t : List ℕ) → checkVerdict s t .number ≡ 0 → headerLength s ≤ length s
 graph-long s t e = number-zero-iff-reads s .0 (number-zero-accepted s t e .graph-reads) .arcs .header .long
 
-pub answer-long : (s t : List ℕ) → checkVerdict s t .number ≡ 0 → firstPathAt s ≤ length t
-answer-long s t e = number-zero-accepted s t e .header .long
+pub answer-long : (s t : List ℕ) → checkVerdict s t .number ≡ 0 → answerHeaderLength s ≤ length t
+answer-long s t e = omega (arith, number-zero-accepted s t e .header .long, mark-long s (vertexCount s))
 
 -- the next path's record begins where the record of path k ends
 pub path-at-next : (s t : List ℕ) (k at : ℕ) → pathAt s t (suc k) at ≡ pathEnd s t (pathAt s t k at)

@@ -13,6 +13,6 @@ pub input-too-long : (s : List ℕ) → longestInput < length s → refusal 1 0 
 unfolding inputVerdict
 input-too-long s h = simp (lt-ltb _ _ h)
 
-pub input-built : (s : List ℕ) {room : ℕ} {v : Verdict} → length s ≤ longestInput → room ≡ roomAsked → v ≡ buildVerdict s room → v ≡ inputVerdict s
+pub input-built : (s : List ℕ) {room : ℕ} {v : Verdict} → length s ≤ longestInput → room ≡ roomAsked s → v ≡ buildVerdict s room → v ≡ inputVerdict s
 unfolding inputVerdict
 input-built s short asked e = simp (le-ltb _ _ short) (e ∙ ap (buildVerdict s) asked)

@@ -27,7 +27,7 @@ lines-are-paths s t zero k e l = refl
 lines-are-paths s t (suc count) k e l =
     ap₂ _++_ (ap (pathLine _) (path-here s t k e (omega arith) .vertices))
     (lines-are-paths s t count (suc k) e (omega arith) ∙
-    ap (λ at. coverLines (pathsFrom s t count at)) (path-at-next t k (firstPathAt s)))
+    ap (λ at. coverLines (pathsFrom s t count at)) (path-at-next s t k (firstPathAt s)))
 
 -- the listing in terms of the answer's cover and its price
 lists-cover-of : (s t : List ℕ) → checkVerdict s t .number ≡ 0 →
@@ -38,7 +38,7 @@ unfolding listingOf coverListing coverOf
 lists-cover-of s t e =
     let at = firstPathAt s in
     simp (eq-eqb _ _ e)
-    (ap₂ _++_ (ap (λ n. coverLine n (natAbs (price whole (graphOf s) (coverOf s t)))) (sym (paths-length t (pathCount t) at)))
+    (ap₂ _++_ (ap (λ n. coverLine n (natAbs (price whole (graphOf s) (coverOf s t)))) (sym (paths-length s t (pathCount t) at)))
     (ap₂ _++_ (lines-are-paths s t (pathCount t) 0 e (omega arith)) (ap boundLine (bound-is-stated s t e ∙ sym (price-is-stated s t e)))))
 
 -- The paths listed are a cover of the graph of these bytes, no cover of any size has a lower price, and that price is listed as price and as bound.

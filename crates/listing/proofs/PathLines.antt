@@ -1,6 +1,6 @@
 -- The lines of the paths of an accepted answer: what the loops that store and that measure them keep from turn to turn. Both walk the path records of the
 -- answer bytes that were checked.
-use Prim.Native.Nat.{ℕ, _+_, _-_, _≤_, _<_}
+use Prim.Native.Nat.{ℕ, _+_, _-_, _*_, _≤_, _<_}
 use native.Mathlib.Nat.{sub-zero}
 use native.Mathlib.Numerals.{add-one}
 use native.Mathlib.Omega.{arith}

@@ -54,7 +54,7 @@ put-path-line-requires c κs =
     let l = c .before .before .before .before .before in
     let first = c .before .before .before .before .path-vertices-at in
     let behind = c .before .before .before .path-end in
-    still-room (pathLine (c .before .path-weight .result) (take (behind .result - first .result) (drop (first .result) (now (l .before .before .before .before .before .before .before .before .args .answer))))) _
+    still-room (pathLine (c .before .path-weight .result) (take (behind .result - first .result) (drop (first .result) (now (l .before .before .before .before .before .before .before .args .answer))))) _
     (line-next (l .loop-test .taken) (l .before .loop .inv .0) _ _ (c .before .path-weight .ensures .0)
     (vertices-handed (l .loop-test .taken) (l .before .loop .inv .0) (first .ensures) (behind .ensures)) (l .before .loop .inv .1))
 
