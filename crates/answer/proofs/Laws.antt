@@ -8,14 +8,13 @@ use lib.ListN.{length, take, take-append-drop}
 use lib.Seq.{length-take-le}
 use borrow.Author.Tests.{eq-eqb, ne-eqb}
 use Rattle.forms.specs.declared.Verdict.{Verdict}
-use Rattle.forms.specs.BuildFaults.{roomAsked}
 use Rattle.forms.specs.GraphFaults.{refusal}
 use Rattle.builder.specs.declared.Built.{Built}
 use Rattle.builder.specs.Build.{BuildPromise}
 use Rattle.text.proofs.Writing.{written-nothing}
 use Rattle.listing.specs.declared.Listed.{Listed}
 use Rattle.listing.specs.Lines.{refusedLine}
-use Rattle.listing.specs.Listing.{longestInput, inputVerdict, longestListing, Lists}
+use Rattle.listing.specs.Listing.{longestInput, answerLent, inputVerdict, longestListing, Lists}
 use Rattle.listing.proofs.Writing.{listed-whole}
 use Rattle.listing.proofs.Longest.{refused-few}
 use Rattle.listing.proofs.Inputs.{input-too-long, input-built}
@@ -39,7 +38,7 @@ pub refuses-long : {s out err err′ : List ℕ} {r : Listed} → longestInput <
     Answered s out out err err′ (record { form = 0; line = r .written })
 refuses-long {s} h = refuses (refusal 1 0) (input-too-long s h) (λ e. absurd (omega arith))
 
-module _ {s out out′ : List ℕ} {b : Built} (short : length s ≤ longestInput) (lent : length out ≡ roomAsked) (p : BuildPromise s out out′ b) where
+module _ {s out out′ : List ℕ} {b : Built} (short : length s ≤ longestInput) (lent : length out ≡ answerLent) (p : BuildPromise s out out′ b) where
   verdict : refusal (b .number) (b .place) ≡ inputVerdict s
   verdict = input-built s short lent (p .verdict)
 

@@ -7,13 +7,12 @@ use mathlib.Core.Logic.{_≢_}
 use lib.ListN.{length, take}
 use borrow.Author.Tests.{eq-eqb, ne-eqb}
 use Rattle.forms.specs.declared.Verdict.{Verdict}
-use Rattle.forms.specs.BuildFaults.{roomAsked}
 use Rattle.forms.specs.GraphFaults.{refusal}
 use Rattle.builder.specs.declared.Built.{Built}
 use Rattle.builder.specs.Build.{BuildPromise}
 use Rattle.listing.specs.declared.Listed.{Listed}
 use Rattle.listing.specs.Lines.{refusedLine}
-use Rattle.listing.specs.Listing.{listingOf, longestInput, inputVerdict, longestListing, Lists}
+use Rattle.listing.specs.Listing.{listingOf, longestInput, answerLent, inputVerdict, longestListing, Lists}
 use Rattle.listing.proofs.Writing.{listed-whole}
 use Rattle.listing.proofs.Longest.{refused-few, listing-few}
 use Rattle.listing.proofs.Inputs.{input-too-long, input-built}
@@ -35,7 +34,7 @@ pub lists-too-long : {s before after : List ℕ} {r : Listed} → length before 
     Assembled s before after (r .written)
 lists-too-long {s} long h = refuses (refusal 1 0) (input-too-long s h) (λ e. absurd (omega arith)) long
 
-module _ {s lent held : List ℕ} {b : Built} (short : length s ≤ longestInput) (asked : length lent ≡ roomAsked) (p : BuildPromise s lent held b) where
+module _ {s lent held : List ℕ} {b : Built} (short : length s ≤ longestInput) (asked : length lent ≡ answerLent) (p : BuildPromise s lent held b) where
   verdict : refusal (b .number) (b .place) ≡ inputVerdict s
   verdict = input-built s short asked (p .verdict)
 

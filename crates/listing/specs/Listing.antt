@@ -12,7 +12,7 @@ use Rattle.mathematics.specs.Cover.{Weighted, price}
 use Rattle.mathematics.specs.Bound.{bound}
 use Rattle.forms.specs.declared.Verdict.{Verdict}
 use Rattle.forms.specs.AnswerForm.{pathCount, answerMarks, firstPathAt, pathWeight, coverOf}
-use Rattle.forms.specs.BuildFaults.{roomAsked, buildVerdict}
+use Rattle.forms.specs.BuildFaults.{buildVerdict}
 use Rattle.forms.specs.GraphFaults.{refusal, nothingRefused, graphVerdict}
 use Rattle.forms.specs.GraphOf.{graphOf}
 use Rattle.forms.specs.Limits.{roomVertices, roomPaths}
@@ -50,9 +50,13 @@ listingOf s t =
 abbrev pub longestInput : ℕ
 longestInput = 65_536
 
+-- how many bytes a program lends for an answer: as many as the longest has
+abbrev pub answerLent : ℕ
+answerLent = 32_543
+
 -- what graph bytes of any length are refused by in a program that builds an answer for them, for which it lends the longest answer's room
 unfoldable pub inputVerdict : List ℕ → Verdict
-inputVerdict s = cond (ltb longestInput (length s)) (refusal 1 0) (buildVerdict s (roomAsked s))
+inputVerdict s = cond (ltb longestInput (length s)) (refusal 1 0) (buildVerdict s answerLent)
 
 -- the listing of what the two inputs hold, of any length
 unfoldable pub inputsListing : List ℕ → List ℕ → List ℕ
