@@ -1,5 +1,4 @@
 -- `reach::arc_lacks` meets its contract.
-use borrow.Author.Needs.{needs}
 use native.Mathlib.Omega.{arith}
 use mathlib.Core.Path.{sym, _∙_}
 use Rattle.reach.proofs.ReachLaws.{arc-inside, tail-low, head-low}

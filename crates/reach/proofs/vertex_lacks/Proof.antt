@@ -1,5 +1,4 @@
 -- `reach::vertex_lacks` meets its contract.
-use borrow.Author.Needs.{needs}
 use native.Mathlib.Omega.{arith}
 use mathlib.Core.Path.{refl, sym, _∙_}
 use Rattle.reach.proofs.ReachLawsLacking.{ask-nothing, ask-lies, ask-lacks, reachable-lies}
