@@ -10,10 +10,9 @@ use lib.ListN.{length, getD, take, drop, length-drop}
 use lib.Seq.{length-take-le}
 use borrow.Author.Tests.{eqb-true, eq-eqb, ne-eqb}
 use Rattle.mathematics.specs.Cover.{Weighted}
+use Rattle.forms.specs.AnswerForm.{pathCount, firstPathAt, pathVerticesAt, pathWeight, pathLength, pathVertices, pathEnd, pathOf, pathsFrom, coverOf}
 use Rattle.forms.specs.Bytes.{part}
-use Rattle.forms.specs.GraphForm.{vertexCount}
 use Rattle.forms.specs.GraphFaults.{refusal, nothingRefused}
-use Rattle.forms.specs.AnswerForm.{pathCount, firstPathAt, pathHeaderLength, pathWeight, pathLength, pathVertices, pathEnd, pathOf, pathsFrom, coverOf}
 use Rattle.checker.specs.Check.{checkVerdict, handOutVerdict, pathAt, handedOut, handedOutAt}
 use Rattle.checker.specs.Accepted.{PathsRight}
 use Rattle.checker.specs.HandedOut.{noPath, PartFound, IsPart, HandsOut}
@@ -27,23 +26,23 @@ number-zero-handed-out s t k e =
     let h = earlier-first (checkVerdict s t) (cond (ltb k (pathCount t)) nothingRefused (refusal 23 0)) e in
     (h .0, ltb→lt _ _ (held (ltb k (pathCount t)) 22 0 nothingRefused (h .1) .0))
 
-module _ (t : List ℕ) where
-  pub paths-length : (count at : ℕ) → length (pathsFrom t count at) ≡ count
+module _ (s t : List ℕ) where
+  pub paths-length : (count at : ℕ) → length (pathsFrom s t count at) ≡ count
   paths-length zero at = refl
-  paths-length (suc count) at = ap suc (paths-length count (pathEnd t at))
+  paths-length (suc count) at = ap suc (paths-length count (pathEnd s t at))
 
   -- the record of path k is where pathAt says
-  path-k : (count at k : ℕ) → k < count → getD (pathsFrom t count at) k noPath ≡ pathOf t (pathAt t k at)
+  path-k : (count at k : ℕ) → k < count → getD (pathsFrom s t count at) k noPath ≡ pathOf s t (pathAt s t k at)
   path-k zero at k h = absurd (omega arith)
   path-k (suc count) at zero h = refl
-  path-k (suc count) at (suc k) h = path-k count (pathEnd t at) k (omega arith)
+  path-k (suc count) at (suc k) h = path-k count (pathEnd s t at) k (omega arith)
 
   -- and it ends within the answer
-  path-k-within : (s : List ℕ) (count at k : ℕ) (before : List ℕ) (copies : ℕ) → PathsRight s t count at before copies → k < count → pathEnd t (pathAt t k at) ≤ length t
-  path-k-within s zero at k before copies h l = absurd (omega arith)
-  path-k-within s (suc count) at zero before copies h l = h .0 .within
-  path-k-within s (suc count) at (suc k) before copies h l =
-      path-k-within s count (pathEnd t at) k (pathVertices t at) (copies + pathWeight t at) (h .1) (omega arith)
+  path-k-within : (count at k : ℕ) (before : List ℕ) (copies : ℕ) → PathsRight s t count at before copies → k < count → pathEnd s t (pathAt s t k at) ≤ length t
+  path-k-within zero at k before copies h l = absurd (omega arith)
+  path-k-within (suc count) at zero before copies h l = h .0 .within
+  path-k-within (suc count) at (suc k) before copies h l =
+      path-k-within count (pathEnd s t at) k (pathVertices s t at) (copies + pathWeight t at) (h .1) (omega arith)
 
 -- for every input what is handed out is the part of the answer that begins at handedOutAt
 pub handed-out-is-part : (s t : List ℕ) (k : ℕ) → IsPart s t k
@@ -54,9 +53,9 @@ handed-out-is-part s t k = by (eqb (handOutVerdict s t k .number) 0) refl
     by false p = record { within = simp p (omega arith); is-part = simp p }
     by true p =
         let h = number-zero-handed-out s t k (eqb-true _ _ p) in
-        let at = pathAt t k (firstPathAt (vertexCount s)) in
-        let inside : pathEnd t at ≤ length t = path-k-within t s (pathCount t) (firstPathAt (vertexCount s)) k [] 0 (number-zero-accepted s t (h .0) .paths) (h .1) in
-        let long = length-take-le (pathLength t at) (drop (at + pathHeaderLength) t) (simp length-drop (omega arith)) in
+        let at = pathAt s t k (firstPathAt s) in
+        let inside : pathEnd s t at ≤ length t = path-k-within s t (pathCount t) (firstPathAt s) k [] 0 (number-zero-accepted s t (h .0) .paths) (h .1) in
+        let long = length-take-le (pathLength s t at) (drop (pathVerticesAt s at) t) (simp length-drop (omega arith)) in
         record { within = simp (p, long) inside; is-part = simp (p, long) }
 
 -- so the part that is found ends within the answer, and its bytes are those handed out
@@ -75,12 +74,12 @@ pub handed-out-is-path-k : (s t : List ℕ) (k : ℕ) → handOutVerdict s t k .
 unfolding handedOut coverOf
 handed-out-is-path-k s t k e =
     let h = number-zero-handed-out s t k e in
-    let at = pathAt t k (firstPathAt (vertexCount s)) in
-    let vertices : handedOut s t k ≡ pathVertices t at = simp (eq-eqb _ _ e) in
+    let at = pathAt s t k (firstPathAt s) in
+    let vertices : handedOut s t k ≡ pathVertices s t at = simp (eq-eqb _ _ e) in
     record {
       lowest = accepted-is-lowest s t (h .0) .0;
-      is-one = subst (λ n. k < n) (sym (paths-length t (pathCount t) (firstPathAt (vertexCount s)))) (h .1);
-      is-path-k = vertices ∙ sym (ap (λ (w : Weighted). w .path) (path-k t (pathCount t) (firstPathAt (vertexCount s)) k (h .1)));
+      is-one = subst (λ n. k < n) (sym (paths-length s t (pathCount t) (firstPathAt s))) (h .1);
+      is-path-k = vertices ∙ sym (ap (λ (w : Weighted). w .path) (path-k s t (pathCount t) (firstPathAt s) k (h .1)));
       in-answer = handed-out-is-part s t k;
     }
 

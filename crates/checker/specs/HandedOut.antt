@@ -6,11 +6,10 @@ use mathlib.Core.List.{List, []}
 use lib.ListN.{length, getD}
 use Rattle.mathematics.specs.Price.{whole}
 use Rattle.mathematics.specs.Cover.{Weighted, IsLowest}
-use Rattle.forms.specs.Bytes.{part}
-use Rattle.forms.specs.GraphForm.{vertexCount}
-use Rattle.forms.specs.GraphOf.{graphOf}
-use Rattle.forms.specs.GraphFaults.{refusal}
 use Rattle.forms.specs.AnswerForm.{coverOf}
+use Rattle.forms.specs.Bytes.{part}
+use Rattle.forms.specs.GraphFaults.{refusal}
+use Rattle.forms.specs.GraphOf.{graphOf}
 use Rattle.checker.specs.Check.{handOutVerdict, handedOut, handedOutAt}
 
 -- what stands for a path whose number is not below the number of paths
@@ -30,7 +29,7 @@ pub record IsPart (s t : List ℕ) (k : ℕ) : Type 0 where
 
 -- where nothing is refused, it is path k of the answer, whose paths are a cover of lowest price
 pub record HandsOut (s t : List ℕ) (k : ℕ) : Type 0 where
-  pub lowest : IsLowest whole (graphOf s) (coverOf (vertexCount s) t)
-  pub is-one : k < length (coverOf (vertexCount s) t)
-  pub is-path-k : handedOut s t k ≡ getD (coverOf (vertexCount s) t) k noPath .path
+  pub lowest : IsLowest whole (graphOf s) (coverOf s t)
+  pub is-one : k < length (coverOf s t)
+  pub is-path-k : handedOut s t k ≡ getD (coverOf s t) k noPath .path
   pub in-answer : IsPart s t k

@@ -14,18 +14,15 @@ hand-out-verdict-requires c κs = search needs
 returns : tie.Need-returns
 returns c = nothing-found _ _ _ (c .before .before .hand-out-verdict .ensures) (c .if1 .taken) (omega arith) (omega arith)
 
-vertex-count-requires : tie.Need-vertex-count-requires
-vertex-count-requires c κs =
+first-path-at-requires : tie.Need-first-path-at-requires
+first-path-at-requires c κs =
     let h = has-path _ _ _ (ap (λ (v : Verdict). v .number) (sym (c .before .before .hand-out-verdict .ensures)) ∙ c .if1 .left) in
     number-zero-iff-reads _ .0 (h .accepted .graph-reads) .arcs .header .long
 
-first-path-at-requires : tie.Need-first-path-at-requires
-first-path-at-requires c κs = search needs
-
 path-at-requires : tie.Need-path-at-requires
 path-at-requires c κs =
-    let h = has-path _ _ _ (ap (λ (v : Verdict). v .number) (sym (c .before .before .before .before .hand-out-verdict .ensures)) ∙ c .before .before .if1 .left) in
-    rw (c .first-path-at .ensures, c .before .vertex-count .ensures .0) (stands-to h)
+    let h = has-path _ _ _ (ap (λ (v : Verdict). v .number) (sym (c .before .before .before .hand-out-verdict .ensures)) ∙ c .before .if1 .left) in
+    rw (c .first-path-at .ensures .0) (stands-to h)
 
 path-vertices-at-requires : tie.Need-path-vertices-at-requires
 path-vertices-at-requires c κs = search needs
@@ -35,8 +32,8 @@ path-length-requires c κs = search needs
 
 returns-2 : tie.Need-returns-2
 returns-2 c =
-    let d = c .before .before .before .before in
-    path-found _ _ _ (d .before .before .before .hand-out-verdict .ensures) (d .before .if1 .left) (d .vertex-count .ensures .0) (c .before .before .before .first-path-at .ensures)
+    let d = c .before .before .before in
+    path-found _ _ _ (d .before .before .before .hand-out-verdict .ensures) (d .before .if1 .left) (d .first-path-at .ensures .0)
     (c .before .before .path-at .ensures .0) (c .before .before .path-at .ensures .1) (search needs) (search needs)
 
 pub find-path-spec : {M : Type 1} → statement M
@@ -45,7 +42,6 @@ find-path-spec =
     (tie.spec
     hand-out-verdict-requires
     returns
-    vertex-count-requires
     first-path-at-requires
     path-at-requires
     path-vertices-at-requires
