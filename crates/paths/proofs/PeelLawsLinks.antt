@@ -19,7 +19,7 @@ use Rattle.forms.specs.GraphForm.{vertexCount}
 use Rattle.forms.specs.GraphOf.{graphOf}
 use Rattle.forms.specs.GraphReads.{Reads}
 use Rattle.forms.proofs.ArcNumbers.{arc-there}
-use Rattle.forms.proofs.GraphFacts.{graph-well-formed, graph-within}
+use Rattle.forms.proofs.GraphFacts.{graph-well-formed, graph-room}
 use Rattle.forms.proofs.GraphRange.{vertices-length}
 use Rattle.network.specs.Network.{nth, mostEdges}
 use Rattle.paths.specs.Slots.{preparedOf, plainSlots, allSlots, openingSlot, closingSlot, readingSlot, linkAt, inUse, edgeFrom, edgeTo}
@@ -30,7 +30,7 @@ use Rattle.paths.proofs.SlotKinds.{SlotKind, is-inside, is-across, is-o
 -- the numbers of edges and nodes are small
 pub slots-few : (s : List ℕ) → Reads s → allSlots s ≤ mostEdges
 slots-few s r =
-    omega (arith, r .arcs .header .few-vertices, r .arcs .header .few-arcs, prepared-fewer (graphOf s .reads), graph-within s r .few-reads)
+    omega (arith, r .arcs .header .vertices-room, r .arcs .header .arcs-room, prepared-fewer (graphOf s .reads), graph-room s r .reads)
 
 module _ (s : List ℕ) (reads : Reads s) where
   abbrev rises : All (Rises (length (graphOf s .vertices))) (graphOf s .arcs)
@@ -162,5 +162,5 @@ module _ (s : List ℕ) (reads : Reads s) where
         arith,
         linked-short v p (start-below (graphOf s) v (path-start (graphOf s) v p t)) (path-linked (graphOf s) v p t),
         vertices-length s,
-        reads .arcs .header .few-vertices,
+        reads .arcs .header .vertices-room,
       )

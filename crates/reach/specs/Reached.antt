@@ -14,7 +14,7 @@ use Rattle.forms.specs.GraphForm.{vertexCount, arcCount, vertexDemand, arcTail,
 use Rattle.forms.specs.GraphOf.{graphOf}
 use Rattle.forms.specs.GraphReads.{Reads}
 use Rattle.forms.specs.BuildFaults.{asksLieVerdict, readsLieVerdict}
-use Rattle.forms.specs.Limits.{maxVertices}
+use Rattle.forms.specs.Limits.{roomVertices}
 
 -- n and m are the numbers of vertices and arcs of a form that reads
 pub record FormSizes (s : List ℕ) (n m : ℕ) : Type 0 where
@@ -22,9 +22,9 @@ pub record FormSizes (s : List ℕ) (n m : ℕ) : Type 0 where
   pub vertices : n ≡ vertexCount s
   pub arcs : m ≡ arcCount s
 
--- for each vertex of the form s the array, with room for as many as there can be, says what f says of it
+-- for each vertex of the form s the array, with room for as many as the tables hold, says what f says of it
 pub record Tells (s : List ℕ) (f : ℕ → Bool) (xs : List Bool) : Type 0 where
-  pub long : length xs ≡ maxVertices
+  pub long : length xs ≡ roomVertices
   pub says : (v : ℕ) → v < vertexCount s → getD xs v false ≡ f v
 
 -- the arrays tell which vertices are reached from a start, and which reach an end

@@ -25,12 +25,12 @@ use Rattle.forms.specs.GraphForm.{vertexCount, arcCount, openingPrice, vertexDe
 use Rattle.forms.specs.GraphOf.{vertexOf, arcOf, graphOf, arcItem}
 use Rattle.forms.specs.GraphReads.{Reads}
 use Rattle.forms.proofs.ArcNumbers.{arc-among, arc-number}
-use Rattle.forms.proofs.GraphFacts.{graph-well-formed, graph-within}
+use Rattle.forms.proofs.GraphFacts.{graph-well-formed, graph-room}
 use Rattle.network.specs.Network.{nth, liveAt, sumTo, Way, stop, step, base, span, Shape, Keys, Waiting, leaving, entering, share, mostNodes, mostEdges, mostMoved, mostCost, mostSteps, stepCost}
 use Rattle.paths.specs.Slots.{preparedOf, plainSlots, allSlots, acrossSlot, openingSlot, closingSlot, readingSlot, linkAt, liveNode, inUse, edgeFrom, edgeTo, edgeCost, firstLoad}
 use Rattle.wiring.specs.Lay.{EdgesLaid, LoadsLaid, LiveLaid, Summable, Balanced}
 use Rattle.reads.specs.ReadTable.{tableRows}
-use Rattle.forms.specs.Limits.{maxVertices, maxDemand}
+use Rattle.forms.specs.Limits.{roomVertices, maxDemand}
 use Rattle.network.proofs.NetworkLaws.{same-or-not, below-or-not, sum-same, sum-none, sum-ones, share-other}
 use Rattle.paths.proofs.SlotKinds.{SlotKind, is-inside, is-across, is-opening, is-closing, slot-kind, at-reading}
 use Rattle.wiring.proofs.SlotLaws.{first-inside, first-across, first-end, useful-below, sum-split, sum-most}
@@ -50,8 +50,8 @@ module _ (s : List ℕ) (r : Reads s) where
   wf : WellFormed (graphOf s)
   wf = graph-well-formed s r
 
-  few : vertexCount s ≤ maxVertices
-  few = r .arcs .header .few-vertices
+  few : vertexCount s ≤ roomVertices
+  few = r .arcs .header .vertices-room
 
   -- ---- live nodes and the ends of edges
 
@@ -275,7 +275,7 @@ module _ (s : List ℕ) (r : Reads s) where
   -- ---- first loads
 
   few-reads : length (preparedOf s) ≤ tableRows
-  few-reads = omega (arith, prepared-fewer (graphOf s .reads), graph-within s r .few-reads)
+  few-reads = omega (arith, prepared-fewer (graphOf s .reads), graph-room s r .reads)
 
   -- what holds of each ask holds of each vertex with its demand
   vertex-of : (P : Ask → Type 0) (k i : ℕ) → All P (vertexAsks i (tabulate (vertexOf s) k i)) → (v : ℕ) → i ≤ v → v < i + k →
@@ -311,7 +311,7 @@ module _ (s : List ℕ) (r : Reads s) where
         sum-most (length (preparedOf s)) (λ j. behind (2 * vertexCount s + j)) (λ j. 1) (λ j l. one (2 * vertexCount s + j)),
         sum-ones (length (preparedOf s)) (λ j. 1) (λ j l. refl),
         few,
-        r .arcs .header .few-arcs,
+        r .arcs .header .arcs-room,
         few-reads,
       )
     where
