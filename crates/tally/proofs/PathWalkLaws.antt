@@ -27,7 +27,7 @@ use Rattle.forms.specs.GraphReads.{ArcsRight, Reads}
 use Rattle.forms.specs.Layout.{maxWeight, maxPathLength}
 use Rattle.forms.specs.Limits.{roomVertices, roomArcs, maxCost}
 use Rattle.certify.specs.Growth.{onward, Grown}
-use Rattle.checker.specs.Tallies.{goesOnTo, TotalsFit, WalkTallied, PathWalked}
+use Rattle.tally.specs.Tally.{goesOnTo, TotalsFit, WalkTallied, PathWalked}
 use Rattle.forms.proofs.LayoutLaws.{vertices-room, arcs-room, reads-room, weight-limit, path-length-limit}
 use Rattle.forms.proofs.PartLaws.{part-cons, part-none, part-length}
 use Rattle.forms.proofs.GraphFacts.{graph-well-formed}
