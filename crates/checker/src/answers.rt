@@ -24,7 +24,7 @@ ghost use mathlib.Core.Path.{_≡_};
 ghost use Prim.Native.Nat.{_+_, _*_, _<_, _≤_};
 ghost use lib.ListN.{length};
 ghost use Rattle.forms.specs.AnswerFaults.{answerHeaderVerdict, markFault, marksVerdict, listBefore};
-ghost use Rattle.forms.specs.AnswerForm.{inMarkAt, markParts, markPartLength, firstPathAt};
+ghost use Rattle.forms.specs.AnswerForm.{pathCount, inMarkAt, markParts, markPartLength, firstPathAt};
 ghost use Rattle.forms.specs.ArcTable.{ArcTable};
 ghost use Rattle.forms.specs.Roles.{Roles};
 ghost use Rattle.forms.specs.Bytes.{part};
@@ -233,16 +233,17 @@ pub fn read_paths(
     first: &[u16; Graph::ROOM_VERTICES + 1],
     roles: &[u8; Graph::ROOM_VERTICES],
     t: &[u8],
+    paths: usize,
     vertex_totals: &mut [usize; Graph::ROOM_VERTICES],
     arc_totals: &mut [usize; Graph::ROOM_ARCS],
     met: &mut [bool; Graph::ROOM_READS],
 ) -> Tally
-    requires { ⌜ Reads (now s) × ArcTable (now s) (now first) × Roles (now s) (now roles) × (firstPathAt (now s) ≤ length (now t)) ⌝ }
+    requires { ⌜ Reads (now s) × ArcTable (now s) (now first) × Roles (now s) (now roles) × (firstPathAt (now s) ≤ length (now t)) × (paths ≡ pathCount (now t)) ⌝ }
     requires { ⌜ NothingTallied (now «vertex_totals») (now «arc_totals») (now met) ⌝ }
     ensures { λ r. ⌜ PathsRead (now (s .entry)) (now (t .entry)) (now («vertex_totals» .exit)) (now («arc_totals» .exit)) (now (met .exit)) (r .number) (r .place) (r .price) ⌝ }
 {
     let opening = opening_price(s);
-    let mut left = path_count(t);
+    let mut left = paths;
     let mut at = first_path_at(s);
     let mut p = 0;
     let mut lp = 0;
