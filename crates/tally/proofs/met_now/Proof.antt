@@ -1,7 +1,7 @@
--- `checker::answers::met_now` looks at the path only where the read was not met.
+-- `tally::met_now` looks at the path only where the read was not met.
 use borrow.Author.Needs.{needs}
-use Rattle.checker.proofs.answers.met_now.Statement.{statement}
-use Rattle.checker.proofs.answers.met_now.Tie as tie
+use Rattle.tally.proofs.met_now.Statement.{statement}
+use Rattle.tally.proofs.met_now.Tie as tie
 
 returns : tie.Need-returns
 returns c = search needs

@@ -1,5 +1,5 @@
 -- Walking along a path of an answer: what one step adds to the totals, and the laws of the loop that walks.
-use Prim.Native.Nat.{ℕ, zero, suc, _+_, _-_, _*_, _<_, _≤_}
+use Prim.Native.Nat.{ℕ, suc, _+_, _-_, _*_, _<_, _≤_}
 use native.Mathlib.Nat.{le-refl, zero-add, add-zero, sub-zero, mul-zero, mul-le-mul-left}
 use native.Mathlib.Decide.{ℕ-discrete}
 use native.Mathlib.Omega.{arith}
@@ -27,7 +27,7 @@ use Rattle.forms.specs.GraphReads.{ArcsRight, Reads}
 use Rattle.forms.specs.Layout.{maxWeight, maxPathLength}
 use Rattle.forms.specs.Limits.{roomVertices, roomArcs, maxCost}
 use Rattle.certify.specs.Growth.{onward, Grown}
-use Rattle.checker.specs.Tallies.{goesOnTo, TotalsFit, WalkTallied, PathWalked}
+use Rattle.tally.specs.Tally.{goesOnTo, TotalsFit, WalkTallied, PathWalked}
 use Rattle.forms.proofs.LayoutLaws.{vertices-room, arcs-room, reads-room, weight-limit, path-length-limit}
 use Rattle.forms.proofs.PartLaws.{part-cons, part-none, part-length}
 use Rattle.forms.proofs.GraphFacts.{graph-well-formed}

@@ -1,9 +1,9 @@
--- `checker::answers::holds_read` walks once along the path: what is left of the read and of the path decides.
+-- `tally::holds_read` walks once along the path: what is left of the read and of the path decides.
 use Prim.Native.Nat.{_-_}
-use Rattle.checker.proofs.AnswerReads.{HoldsLeft, holds-begin, holds-found, holds-met, holds-broken, holds-passed, holds-end}
+use Rattle.tally.proofs.ReadsMetLaws.{HoldsLeft, holds-begin, holds-found, holds-met, holds-broken, holds-passed, holds-end}
 use borrow.Author.Needs.{needs}
-use Rattle.checker.proofs.answers.holds_read.Statement.{statement}
-use Rattle.checker.proofs.answers.holds_read.Tie as tie
+use Rattle.tally.proofs.holds_read.Statement.{statement}
+use Rattle.tally.proofs.holds_read.Tie as tie
 
 abbrev Inv-loop : tie.InvT-loop
 Inv-loop s a la t b lb i₀ j₀ i j = HoldsLeft s a la t b lb i j

@@ -1,11 +1,11 @@
--- `checker::answers::walk_path` counts the first vertex and walks on from there.
+-- `tally::walk_path` counts the first vertex and walks on from there.
 use borrow.Author.Tests.{not-true, not-false}
 use mathlib.Core.Path.{sym, _∙_}
 use native.Mathlib.Omega.{arith}
-use Rattle.checker.proofs.AnswerWalk.{path-outside, path-no-start, path-room, path-walked, first-room}
+use Rattle.tally.proofs.PathWalkLaws.{path-outside, path-no-start, path-room, path-walked, first-room}
 use borrow.Author.Needs.{needs}
-use Rattle.checker.proofs.answers.walk_path.Statement.{statement}
-use Rattle.checker.proofs.answers.walk_path.Tie as tie
+use Rattle.tally.proofs.walk_path.Statement.{statement}
+use Rattle.tally.proofs.walk_path.Tie as tie
 
 shared-slice-read-wide : tie.Need-shared-slice-read-wide
 shared-slice-read-wide c = search needs

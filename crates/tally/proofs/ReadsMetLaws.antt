@@ -17,7 +17,7 @@ use Rattle.forms.specs.GraphForm.{readCount, firstReadAt, readLength, readVerti
 use Rattle.forms.specs.GraphOf.{readsFrom}
 use Rattle.forms.specs.Limits.{roomReads}
 use Rattle.forms.specs.GraphReads.{Reads, ReadRight, ReadsRight}
-use Rattle.checker.specs.Tallies.{readOf, ReadsMet}
+use Rattle.tally.specs.Tally.{readOf, ReadsMet}
 use Rattle.forms.proofs.PartLaws.{part-cons, part-none}
 
 -- a list whose numbers are all above v holds nothing that begins with v

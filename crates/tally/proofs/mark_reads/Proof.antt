@@ -1,13 +1,13 @@
--- `checker::answers::mark_reads` marks each read that the path holds, one record after another.
+-- `tally::mark_reads` marks each read that the path holds, one record after another.
 use native.Mathlib.Omega.{arith}
 use Rattle.forms.specs.Bytes.{part}
 use Rattle.forms.specs.GraphForm.{readCount}
 use mathlib.Core.Path.{_≡_}
 use Prim.Native.Nat.{_-_}
-use Rattle.checker.proofs.AnswerReads.{ReadsLeft, reads-begin, reads-next, reads-turn, reads-end}
+use Rattle.tally.proofs.ReadsMetLaws.{ReadsLeft, reads-begin, reads-next, reads-turn, reads-end}
 use borrow.Author.Needs.{needs}
-use Rattle.checker.proofs.answers.mark_reads.Statement.{statement}
-use Rattle.checker.proofs.answers.mark_reads.Tie as tie
+use Rattle.tally.proofs.mark_reads.Statement.{statement}
+use Rattle.tally.proofs.mark_reads.Tie as tie
 
 abbrev Inv-loop : tie.InvT-loop
 Inv-loop s t b lb met₀ count at₀ r₀ met at r = ReadsLeft s (part t b lb) met₀ met r at × (count ≡ readCount s)

@@ -1,14 +1,14 @@
--- `checker::answers::walk_on` walks along a path: what is left of it decides, and adds what is lacking.
+-- `tally::walk_on` walks along a path: what is left of it decides, and adds what is lacking.
 use mathlib.Core.Path.{sym, _∙_}
 use native.Mathlib.Omega.{arith}
 use Rattle.forms.specs.GraphForm.{vertexCount, firstArcAt}
 use mathlib.Core.Path.{_≡_}
 use Prim.Native.Nat.{_-_}
-use Rattle.checker.proofs.AnswerWalk.{WalkLeft, walk-fails, walk-begin, walk-outside, walk-nowhere, walk-turn, walk-end, arc-room, vertex-room}
+use Rattle.tally.proofs.PathWalkLaws.{WalkLeft, walk-fails, walk-begin, walk-outside, walk-nowhere, walk-turn, walk-end, arc-room, vertex-room}
 use Rattle.certify.proofs.GrowthLaws.{found-arc}
 use borrow.Author.Needs.{needs}
-use Rattle.checker.proofs.answers.walk_on.Statement.{statement}
-use Rattle.checker.proofs.answers.walk_on.Tie as tie
+use Rattle.tally.proofs.walk_on.Statement.{statement}
+use Rattle.tally.proofs.walk_on.Tie as tie
 
 abbrev Inv-loop : tie.InvT-loop
 Inv-loop s first roles t b lb from weight vertex-totals₀ arc-totals₀ n base u₀ cost₀ j₀ vertex-totals arc-totals u cost j = WalkLeft s t b lb from weight vertex-totals₀ vertex-totals arc-totals₀ arc-totals u cost j × (n ≡ vertexCount s) × (base ≡ firstArcAt s)
