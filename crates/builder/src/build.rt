@@ -383,10 +383,11 @@ fn answer(
 fn first_refusal(s: &[u8], number: usize, place: usize, room: usize) -> Verdict
     ensures { λ r. ⌜ r ≡ then (refusal number place) (cond (ltb room (roomAsked (now (s .entry)))) (refusal 9 0) nothingRefused) ⌝ }
 {
+    let asked = longest_answer(s);
     if number != 0 {
         return Verdict::new(number, place);
     }
-    if room < longest_answer(s) {
+    if room < asked {
         return Verdict::new(9, 0);
     }
     Verdict::new(0, 0)
