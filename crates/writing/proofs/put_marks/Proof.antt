@@ -6,7 +6,7 @@ use lib.ListN.{length}
 use mathlib.Core.Path.{_≡_, refl, subst}
 use Rattle.forms.specs.GraphForm.{vertexCount}
 use Rattle.forms.specs.AnswerForm.{inMarkAt, firstPathAt}
-use Rattle.forms.proofs.LayoutLaws.{mark-fits, mark-grows, in-mark-inside, out-mark-inside, parts-few}
+use Rattle.forms.proofs.LayoutLaws.{mark-fits, mark-grows, in-mark-inside, out-mark-inside}
 use Rattle.checker.specs.Encode.{markBytes}
 use Rattle.network.specs.Network.{nth}
 use Rattle.writing.specs.Writing.{Placed, heldMarks}

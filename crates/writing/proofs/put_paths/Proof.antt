@@ -5,7 +5,7 @@ use Prim.Native.Nat.{_≤_, _-_}
 use lib.ListN.{length}
 use mathlib.Core.Path.{_≡_, refl}
 use Rattle.forms.specs.AnswerForm.{firstPathAt}
-use Rattle.forms.proofs.LayoutLaws.{bytes-few, paths-room}
+use Rattle.forms.proofs.LayoutLaws.{paths-room}
 use Rattle.checker.specs.Encode.{pathBytes}
 use Rattle.paths.specs.Peel.{collected}
 use Rattle.writing.specs.Writing.{Placed}
