@@ -15,7 +15,7 @@ use Rattle.forms.specs.Bytes.{tabulate}
 use Rattle.forms.specs.Layout.{maxVertices, maxPaths, countBytes, answerVersionOf, maxPathLength, longestAnswer}
 use Rattle.forms.specs.GraphForm.{vertexCount}
 use Rattle.forms.specs.GraphReads.{HeaderRight}
-use Rattle.forms.specs.AnswerForm.{inMarkAt, outMarkAt, firstPathAt, pathVerticesAt}
+use Rattle.forms.specs.AnswerForm.{answerVersionAt, pathCountAt, priceAt, inMarkAt, outMarkAt, firstPathAt, pathVerticesAt}
 use Rattle.forms.proofs.LayoutLaws.{count-inside, price-parts-is, mark-first, mark-next, mark-grows, answer-longest, path-length-limit, vertices-room}
 use Rattle.forms.proofs.GraphFacts.{length-tabulate}
 use Rattle.checker.specs.Encode.{bytes16, bytes32, bytes64, countIn, word32, markBytes, pathRecord, pathBytes, afterLength, encodeAnswer}
@@ -136,7 +136,7 @@ mark-place : (s : List ℕ) (v : ℕ) → inMarkAt s v ≡ inMarkAt s 0 + 8 * v
 mark-place s zero = omega arith
 mark-place s (suc v) = omega (arith, mark-next s v, mark-place s v, price-parts-is s)
 
-first-mark : (s : List ℕ) → inMarkAt s 0 ≡ 15
+first-mark : (s : List ℕ) → inMarkAt s 0 ≡ priceAt + 8
 first-mark s = omega (arith, mark-first s, price-parts-is s)
 
 module _ (s a into out : List ℕ) where
@@ -203,7 +203,7 @@ module _ (s : List ℕ) where
   record-room i count h = omega (arith, records-next i, records-grow (i + 1) count (omega arith))
 
   -- "The longest is 32,543 bytes": header, marks, and as many records as an answer may have
-  pub answer-room : (count : ℕ) → HeaderRight s → count ≤ maxPaths s → (15 ≤ firstPathAt s) × (firstPathAt s + longestRecords s count ≤ longestAnswer s)
+  pub answer-room : (count : ℕ) → HeaderRight s → count ≤ maxPaths s → (priceAt + 8 ≤ firstPathAt s) × (firstPathAt s + longestRecords s count ≤ longestAnswer s)
   unfolding longestRecords
   answer-room count h few = (
     omega (arith, mark-place s (vertexCount s), first-mark s),
@@ -269,23 +269,23 @@ record-placed s a b c d place at weight len row wide short e P Q R =
 
 -- ---- the answer form, piece after piece, its length last
 module _ (s a b c d e f : List ℕ) (price : ℕ) (m : Marks ℤ) (W : List Weighted) (version count end : ℕ) where
-  pub answer-placed : 5 ≤ length a → version ≡ answerVersionOf s → length W ≡ count → Placed (set a 4 version) 5 (bytes16 count) b → Placed b 7 (bytes64 price) c →
+  pub answer-placed : answerVersionAt < length a → version ≡ answerVersionOf s → length W ≡ count → Placed (set a answerVersionAt version) pathCountAt (bytes16 count) b → Placed b priceAt (bytes64 price) c →
       Placed c (inMarkAt s 0) (markBytes m (vertexCount s) 0) d → Placed d (firstPathAt s) (pathBytes s W) e → end ≡ firstPathAt s + length (pathBytes s W) →
       Placed e 0 (bytes32 end) f → Placed a 0 (encodeAnswer s price m W) f × (end ≡ length (encodeAnswer s price m W))
   unfolding encodeAnswer
   answer-placed long known counted P16 P64 PM PW ends P32 =
       let l = length-append (markBytes m (vertexCount s) 0) (pathBytes s W) in
       let k = marks-length m (vertexCount s) 0 in
-      let first : firstPathAt s ≡ 15 + 8 * vertexCount s = omega (arith, mark-place s (vertexCount s), first-mark s) in
+      let first : firstPathAt s ≡ priceAt + 8 + 8 * vertexCount s = omega (arith, mark-place s (vertexCount s), first-mark s) in
       let rest : List ℕ = markBytes m (vertexCount s) 0 ++ pathBytes s W in
       let after = afterLength s price m W in
       let is : end ≡ 4 + length after = omega arith in (
         placed-front a e f (bytes32 (4 + length after)) after
-            (subst (λ x. Placed a 4 (x ∷ (bytes16 (length W) ++ (bytes64 price ++ rest))) e) known
-            (subst (λ j. Placed a 4 (version ∷ (bytes16 j ++ (bytes64 price ++ rest))) e) (sym counted)
-            (placed-both a (set a 4 version) e 4 5 (version ∷ []) (bytes16 count ++ (bytes64 price ++ rest)) (placed-one a 4 version (omega arith)) refl
-            (placed-both (set a 4 version) b e 5 7 (bytes16 count) (bytes64 price ++ rest) P16 refl
-            (placed-both b c e 7 (inMarkAt s 0) (bytes64 price) rest P64 (first-mark s)
+            (subst (λ x. Placed a answerVersionAt (x ∷ (bytes16 (length W) ++ (bytes64 price ++ rest))) e) known
+            (subst (λ j. Placed a answerVersionAt (version ∷ (bytes16 j ++ (bytes64 price ++ rest))) e) (sym counted)
+            (placed-both a (set a answerVersionAt version) e answerVersionAt pathCountAt (version ∷ []) (bytes16 count ++ (bytes64 price ++ rest)) (placed-one a answerVersionAt version (omega arith)) refl
+            (placed-both (set a answerVersionAt version) b e pathCountAt priceAt (bytes16 count) (bytes64 price ++ rest) P16 refl
+            (placed-both b c e priceAt (inMarkAt s 0) (bytes64 price) rest P64 (first-mark s)
             (placed-both c d e (inMarkAt s 0) (firstPathAt s) (markBytes m (vertexCount s) 0) (pathBytes s W) PM (omega (arith, mark-place s (vertexCount s), k)) PW))))))
             (subst (λ j. Placed e 0 (bytes32 j) f) is P32),
         omega arith,
