@@ -1,47 +1,55 @@
-// The end of a build: the marks of the vertices, the price, and the answer form in the output.
+// The end of a build: the marks of the vertices, and the price.
 use checker::Graph;
-use forms::bytes::be16;
-use forms::bytes::be32;
-use forms::bytes::wide;
+use forms::fields::arc_cost;
+use forms::fields::arc_count;
+use forms::fields::first_arc_at;
+use forms::fields::opening_price;
+use forms::fields::vertex_count;
+use network::BASE;
+use network::EDGES;
+use network::NODES;
+use network::SPAN;
 ghost use mathlib.Core.Path.{_≡_};
-ghost use Prim.Native.Nat.{_+_, _*_, _-_, _<_, _≤_};
+ghost use Prim.Native.Nat.{_+_, _-_, _≤_};
 ghost use mathlib.Core.Bool.{cond, _&&_};
-ghost use lib.IntN.{subℕ};
-ghost use lib.ListN.{length, getD, take};
-ghost use mathlib.Core.List.{[]};
-ghost use Rattle.checker.specs.Encode.{bytes16, bytes32, bytes64, word32, markBytes, pathRecord, pathBytes, encodeAnswer};
-ghost use Rattle.network.specs.Network.{at, sumTo, base, reach};
-ghost use Rattle.paths.specs.Peel.{collectedAt, collected};
-ghost use Rattle.reach.specs.Reached.{Marked};
-ghost use Rattle.builder.specs.Finish.{Placed, heldMarks, Writable, PathsFit, MarksHeld, Priced, priceFrom};
+ghost use lib.ListN.{length};
+ghost use Rattle.network.specs.Network.{nth, sumTo, base, mostEdges, mostMoved, span, highest};
+ghost use Rattle.reach.specs.Reached.{Reachable};
+ghost use Rattle.builder.specs.Finish.{MarksHeld, Priced, priceFrom};
+ghost use Rattle.forms.specs.Limits.{roomVertices};
 
-// The mark of a side of a vertex, held with 2,000,000,000 added: its node's where the vertex is useful; the greatest where no start leads to it; else the least.
+// The least and the greatest mark, as they are held, with the base added.
+const LOWEST: u64 = BASE - SPAN;
+
+const HIGHEST: u64 = BASE + SPAN;
+
+// The mark of a side of a vertex, held with the base added: its node's where the vertex is useful; the greatest where no start leads to it; else the least.
 fn side_mark(reached: bool, reaching: bool, own: u64) -> u64
-    ensures { λ r. ⌜ r ≡ cond (reached && reaching) own (cond reached (base - reach) (base + reach)) ⌝ }
+    ensures { λ r. ⌜ r ≡ cond (reached && reaching) own (cond reached (base - span) highest) ⌝ }
 {
     if reached {
         if reaching {
             return own;
         }
-        return 937_000_000;
+        return LOWEST;
     }
-    3_063_000_000
+    HIGHEST
 }
 
 // The final marks of all vertices.
 pub fn final_marks(
     s: &[u8],
-    reached: &[bool; Graph::MAX_VERTICES],
-    reaching: &[bool; Graph::MAX_VERTICES],
-    mark: &[u64; 129],
-    into: &mut [u64; 64],
-    outof: &mut [u64; 64],
+    reached: &[bool; Graph::ROOM_VERTICES],
+    reaching: &[bool; Graph::ROOM_VERTICES],
+    mark: &[u64; NODES],
+    into: &mut [u64; Graph::ROOM_VERTICES],
+    outof: &mut [u64; Graph::ROOM_VERTICES],
 )
-    requires { ⌜ Marked (now s) (now reached) (now reaching) ⌝ }
-    requires { ⌜ (length (now into) ≡ 64) × (length (now outof) ≡ 64) ⌝ }
+    requires { ⌜ Reachable (now s) (now reached) (now reaching) ⌝ }
+    requires { ⌜ (length (now into) ≡ roomVertices) × (length (now outof) ≡ roomVertices) ⌝ }
     ensures { λ _. ⌜ MarksHeld (now (s .entry)) (now (mark .entry)) (now (into .exit)) (now (outof .exit)) ⌝ }
 {
-    let n = wide(s[Graph::AT_VERTICES]);
+    let n = vertex_count(s);
     let mut v: usize = 0;
     while v < n {
         into[v] = side_mark(reached[v], reaching[v], mark[2 * v + 1]);
@@ -51,9 +59,9 @@ pub fn final_marks(
 }
 
 // How many copies the loads open: those on the n openings, which stand from `first` on.
-fn copies(n: usize, first: usize, full: &[u64; 464]) -> u64
-    requires { ⌜ (n ≤ 64) × (first ≤ 320) × (sumTo n (λ k. at (now full) (first + k)) ≤ 320_000_016) ⌝ }
-    ensures { λ r. ⌜ r ≡ sumTo n (λ k. at (now (full .entry)) (first + k)) ⌝ }
+fn copies(n: usize, first: usize, full: &[u64; EDGES]) -> u64
+    requires { ⌜ (first + n ≤ mostEdges) × (sumTo n (λ k. nth (now full) (first + k)) ≤ mostMoved) ⌝ }
+    ensures { λ r. ⌜ r ≡ sumTo n (λ k. nth (now (full .entry)) (first + k)) ⌝ }
 {
     let mut sum: u64 = 0;
     let mut k: usize = 0;
@@ -65,151 +73,19 @@ fn copies(n: usize, first: usize, full: &[u64; 464]) -> u64
 }
 
 // The price: the opening price for each copy, and for each arc its cost for each copy through it.
-pub fn final_price(s: &[u8], full: &[u64; 464], arc_reads: &[usize; Graph::MAX_ARCS]) -> u64
+pub fn final_price(s: &[u8], full: &[u64; EDGES], arc_reads: &[usize; Graph::ROOM_ARCS]) -> u64
     requires { ⌜ Priced (now s) (now full) (now «arc_reads») ⌝ }
     ensures { λ r. ⌜ r ≡ priceFrom (now (s .entry)) (now (full .entry)) ⌝ }
 {
-    let n = wide(s[Graph::AT_VERTICES]);
-    let m = be16(s, Graph::AT_ARCS);
-    let base = Graph::HEADER + Graph::VERTEX * n;
-    let mut price = copies(n, n + m, full) * (be32(s, 9) as u64);
+    let n = vertex_count(s);
+    let m = arc_count(s);
+    let first = first_arc_at(s);
+    let mut price = copies(n, n + m, full) * (opening_price(s) as u64);
     let mut a: usize = 0;
     while a < m {
         let total = full[n + (m - (a + 1))] + (arc_reads[a] as u64);
-        price = price + total * (be32(s, base + Graph::ARC * a + 2) as u64);
+        price = price + total * (arc_cost(s, first, a) as u64);
         a += 1;
     }
     price
-}
-
-// Puts a number into 2 bytes of the output, the higher one first.
-fn put16(out: &mut [u8], place: usize, v: u64)
-    requires { ⌜ (place + 2 ≤ length (now out)) × (v < 65_536) ⌝ }
-    ensures { λ _. ⌜ Placed (now (out .entry)) place (bytes16 v) (now (out .exit)) ⌝ }
-{
-    out[place] = (v / 256) as u8;
-    out[place + 1] = (v % 256) as u8;
-}
-
-// Puts a number into 4 bytes.
-fn put32(out: &mut [u8], place: usize, v: u64)
-    requires { ⌜ (place + 4 ≤ length (now out)) × (v < 4_294_967_296) ⌝ }
-    ensures { λ _. ⌜ Placed (now (out .entry)) place (bytes32 v) (now (out .exit)) ⌝ }
-{
-    put16(out, place, v / 65_536);
-    put16(out, place + 2, v % 65_536);
-}
-
-// Puts a number into 8 bytes.
-fn put64(out: &mut [u8], place: usize, v: u64)
-    requires { ⌜ place + 8 ≤ length (now out) ⌝ }
-    ensures { λ _. ⌜ Placed (now (out .entry)) place (bytes64 v) (now (out .exit)) ⌝ }
-{
-    put32(out, place, v / 4_294_967_296);
-    put32(out, place + 4, v % 4_294_967_296);
-}
-
-// Puts a mark, which is held with 2,000,000,000 added, as a signed number in two's complement.
-fn put_mark(out: &mut [u8], place: usize, plus: u64)
-    requires { ⌜ (place + 4 ≤ length (now out)) × (plus ≤ 4_000_000_000) ⌝ }
-    ensures { λ _. ⌜ Placed (now (out .entry)) place (bytes32 (word32 (subℕ plus base))) (now (out .exit)) ⌝ }
-{
-    if plus < 2_000_000_000 {
-        put32(out, place, plus + 2_294_967_296);
-    } else {
-        put32(out, place, plus - 2_000_000_000);
-    }
-}
-
-// Puts the two marks of each of n vertices.
-fn put_marks(out: &mut [u8], place: usize, n: usize, into: &[u64; 64], outof: &[u64; 64])
-    requires { ⌜ (place + 8 * n ≤ length (now out)) × Writable n (now into) (now outof) ⌝ }
-    ensures { λ _. ⌜ Placed (now (out .entry)) place (markBytes (heldMarks (at (now (into .entry))) (at (now (outof .entry)))) n 0) (now (out .exit)) ⌝ }
-{
-    let mut v: usize = 0;
-    while v < n {
-        put_mark(out, place + 8 * v, into[v]);
-        put_mark(out, place + 8 * v + 4, outof[v]);
-        v += 1;
-    }
-}
-
-// Puts the vertices of the path in row i.
-fn put_vertices(out: &mut [u8], place: usize, rows: &[[u8; 64]; 464], i: usize, len: usize)
-    requires { ⌜ (place + len ≤ length (now out)) × (i < 464) × (len ≤ 64) × (length (getD (now rows) i []) ≡ 64) ⌝ }
-    ensures { λ _. ⌜ Placed (now (out .entry)) place (take len (getD (now (rows .entry)) i [])) (now (out .exit)) ⌝ }
-{
-    let mut j: usize = 0;
-    while j < len {
-        out[place + j] = rows[i][j];
-        j += 1;
-    }
-}
-
-// Puts the record of the path in row i: weight, number of vertices, vertices.
-fn put_path(
-    out: &mut [u8],
-    place: usize,
-    rows: &[[u8; 64]; 464],
-    lens: &[usize; 464],
-    weights: &[u64; 464],
-    i: usize,
-)
-    requires { ⌜ (place + 69 ≤ length (now out)) × (i < 464) × (at (now lens) i ≤ 64) × (at (now weights) i < 4_294_967_296) × (length (getD (now rows) i []) ≡ 64) ⌝ }
-    ensures { λ _. ⌜ Placed (now (out .entry)) place (pathRecord (collectedAt (now (rows .entry)) (now (lens .entry)) (now (weights .entry)) i)) (now (out .exit)) ⌝ }
-{
-    put32(out, place, weights[i]);
-    let len = lens[i];
-    out[place + 4] = len as u8;
-    put_vertices(out, place + 5, rows, i, len);
-}
-
-// Puts the records of the first count paths; gives the place behind them.
-fn put_paths(
-    out: &mut [u8],
-    place: usize,
-    rows: &[[u8; 64]; 464],
-    lens: &[usize; 464],
-    weights: &[u64; 464],
-    count: usize,
-) -> usize
-    requires { ⌜ (place + 69 * count ≤ length (now out)) × PathsFit (now rows) (now lens) (now weights) count ⌝ }
-    ensures { λ r. ⌜ Placed (now (out .entry)) place (pathBytes (collected (now (rows .entry)) (now (lens .entry)) (now (weights .entry)) count)) (now (out .exit)) ⌝ }
-    ensures { λ r. ⌜ (r ≡ place + length (pathBytes (collected (now (rows .entry)) (now (lens .entry)) (now (weights .entry)) count))) × (r ≤ place + 69 * count) ⌝ }
-{
-    let mut end = place;
-    let mut i: usize = 0;
-    while i < count {
-        put_path(out, end, rows, lens, weights, i);
-        end = end + 5 + lens[i];
-        i += 1;
-    }
-    end
-}
-
-// Writes the answer form at the front of the output; gives its length, which is put last.
-pub fn write_answer(
-    out: &mut [u8],
-    n: usize,
-    price: u64,
-    into: &[u64; 64],
-    outof: &[u64; 64],
-    rows: &[[u8; 64]; 464],
-    lens: &[usize; 464],
-    weights: &[u64; 464],
-    count: usize,
-) -> usize
-    requires { ⌜ 32_543 ≤ length (now out) ⌝ }
-    requires { ⌜ Writable n (now into) (now outof) ⌝ }
-    requires { ⌜ PathsFit (now rows) (now lens) (now weights) count ⌝ }
-    ensures { λ r. ⌜ Placed (now (out .entry)) 0 (encodeAnswer n price (heldMarks (at (now (into .entry))) (at (now (outof .entry)))) (collected (now (rows .entry)) (now (lens .entry)) (now (weights .entry)) count)) (now (out .exit)) ⌝ }
-    ensures { λ r. ⌜ r ≡ length (encodeAnswer n price (heldMarks (at (now (into .entry))) (at (now (outof .entry)))) (collected (now (rows .entry)) (now (lens .entry)) (now (weights .entry)) count)) ⌝ }
-{
-    out[4] = 1;
-    put16(out, 5, count as u64);
-    put64(out, 7, price);
-    put_marks(out, 15, n, into, outof);
-    let end = put_paths(out, 15 + 8 * n, rows, lens, weights, count);
-    put32(out, 0, end as u64);
-    end
 }
