@@ -1,7 +1,15 @@
 /* The library's calls for C, C++ and Rust; `rt staticlib calls` writes the archive. Contracts: crates/calls/src/lib.rt.
  *
- * Each takes every byte string and comes to an end. A slice is a pointer and a length. Number (of document 01's table) and place are
- * returned; both are 0 where nothing is refused. Nothing that is lent changes but out, and out not where a call refuses.
+ * Each takes every byte string and comes to an end. A slice is a pointer and a length. Number and place are returned by value; both are 0
+ * where nothing is refused, and docs/FORMS.md says what each number means and where its place is. Nothing that is lent changes but out, and
+ * out not where a call refuses.
+ *
+ * What the caller owes, since no contract can speak of it: each pointer is valid for the length beside it (for length 0 it may be any but
+ * null) until the call returns; out overlaps no input; and the stack has room. In bytes, as measured in docs/BENCHMARK.md, the calls take
+ * 240 (read_graph_form), about 7,000 (check_answer_form, hand_out_path) and 64,768 (build_answer_form).
+ *
+ * Calls may run in several threads at once: the library has no memory of its own, each call works on what it is lent. While a call runs,
+ * no other thread may change its inputs or touch its out.
  */
 #ifndef CALLS_H
 #define CALLS_H
@@ -16,6 +24,10 @@ struct refusal {
     uint64_t number, place;
 };
 
+struct handed_out_part {
+    uint64_t number, place, offset, length;
+};
+
 struct built_form {
     uint64_t number, place, written;
 };
@@ -26,13 +38,10 @@ struct refusal read_graph_form(const uint8_t *graph, size_t graph_len);
 /* Numbers 1 to 7 and 11 to 22. */
 struct refusal check_answer_form(const uint8_t *graph, size_t graph_len, const uint8_t *answer, size_t answer_len);
 
-/* Numbers 1 to 7 and 11 to 23, for path k of the answer. */
-struct refusal hand_out_number(const uint8_t *graph, size_t graph_len, const uint8_t *answer, size_t answer_len, uint64_t k);
-
-/* Copies the vertices of path k to the front of out and returns how many. It returns 0 and changes no byte where hand_out_number refuses,
- * and also where out is shorter than the path: no number says so, hand_out_number then gives 0. A path has a vertex at least, so 0 behind
- * a hand_out_number of 0 means a short out. With 64 bytes that never happens. */
-uint64_t hand_out_path(const uint8_t *graph, size_t graph_len, const uint8_t *answer, size_t answer_len, uint64_t k, uint8_t *out, size_t out_len);
+/* Numbers 1 to 7 and 11 to 23. Checks the answer and hands out path k as a part of it: the path's vertices, a byte each, are the length
+ * bytes from answer + offset on, and lie within the answer. Both are 0 where the call refuses. They speak of the answer as it was checked:
+ * a caller who changes it has to ask again. */
+struct handed_out_part hand_out_path(const uint8_t *graph, size_t graph_len, const uint8_t *answer, size_t answer_len, uint64_t k);
 
 /* Numbers 1 to 9. Writes the answer form of a lowest-price cover at the front of out; written is how many bytes, 0 where it refuses.
  * 32,543 bytes do. */

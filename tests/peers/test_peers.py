@@ -14,7 +14,7 @@ import sys
 from collections import Counter
 
 ROOT = os.path.join(os.path.dirname(os.path.abspath(__file__)), "..", "..")
-for folder in ("tests/reference", "tests/solver", "tests/vectors"):
+for folder in ("tests", "tests/reference", "tests/solver", "tests/vectors"):
     sys.path.insert(0, os.path.join(ROOT, folder))
 
 from cases import D, D_ANSWER, D_WITH_3, D_WITH_3_ANSWER, L, L_ANSWER, X, X_ANSWER
@@ -24,18 +24,10 @@ from forms import LONGEST_ANSWER, check, encode_answer, encode_graph, read_graph
 from generate import make
 from make_reader_vectors import vectors
 from network import solve
+from tally import end, holds_that
 
 COUNTS = {"small": 1500, "small_reads": 500, "genes": 133, "splicing": 300, "hard_reads": 200, "dense": 60, "wide_demands": 60, "limits": 20}
 DAMAGES = 4
-
-passed = 0
-
-
-def holds_that(got, wanted, what):
-    global passed
-    assert got == wanted, f"{what()}: got {got}, wanted {wanted}"
-    passed += 1
-
 
 subprocess.run(["bash", os.path.join(ROOT, "bench", "peers", "build")], check=True)
 peers = ctypes.CDLL(os.path.join(ROOT, "bench", "peers", "built", "libpeers.so"))
@@ -56,7 +48,7 @@ def peer_build(graph, room):
     number, place = ctypes.c_uint64(77), ctypes.c_uint64(77)
     lent = ctypes.create_string_buffer(b"\xa5" * (room + 16), room + 16)
     written = peers.peer_build(graph, len(graph), lent, room, ctypes.byref(number), ctypes.byref(place))
-    holds_that(lent.raw[written:], b"\xa5" * (room + 16 - written), lambda: "bytes behind the answer")
+    holds_that("bytes behind the answer", lent.raw[written:], b"\xa5" * (room + 16 - written))
     return (number.value, place.value), lent.raw[:written]
 
 
@@ -69,13 +61,13 @@ numbers = Counter()
 def compare(name, graph, answer):
     wanted = check(graph, answer)
     numbers[wanted[0]] += 1
-    holds_that(peer_check(graph, answer), wanted, lambda: f"{name}, graph {graph.hex()}, answer {answer.hex()}")
+    holds_that(lambda: f"{name}, graph {graph.hex()}, answer {answer.hex()}", peer_check(graph, answer), wanted)
 
 
 d_answer = encode_answer(D_ANSWER)
 for name, form in vectors:
     compare(name, form, d_answer)
-    holds_that(peer_build(form, LONGEST_ANSWER)[0], refusal_of_builder(form, LONGEST_ANSWER), lambda: name)
+    holds_that(name, peer_build(form, LONGEST_ANSWER)[0], refusal_of_builder(form, LONGEST_ANSWER))
 for graph, answer in ((D, D_ANSWER), (D_WITH_3, D_WITH_3_ANSWER), (L, L_ANSWER), (X, X_ANSWER)):
     compare("as it is", encode_graph(graph), encode_answer(answer))
     for name, g, a in every_single(graph, answer):
@@ -88,18 +80,18 @@ for family, count in COUNTS.items():
         form = encode_graph(graph)
         for room in (LONGEST_ANSWER, LONGEST_ANSWER - 1) if k % 10 == 0 else (LONGEST_ANSWER,):
             refusal, written = peer_build(form, room)
-            holds_that(refusal, refusal_of_builder(form, room), lambda: f"{family} {k}")
+            holds_that(f"{family} {k}", refusal, refusal_of_builder(form, room))
         if answer is None:
             continue
         refusal, written = peer_build(form, LONGEST_ANSWER + 5)
         compare(f"{family} {k} built with LEMON", form, written)
-        holds_that(check(form, written), (0, 0), lambda: f"{family} {k} built with LEMON, {form.hex()}")
-        holds_that(int.from_bytes(written[7:15], "big"), answer.price, lambda: f"{family} {k}, price")
+        holds_that(lambda: f"{family} {k} built with LEMON, {form.hex()}", check(form, written), (0, 0))
+        holds_that(f"{family} {k}, price", int.from_bytes(written[7:15], "big"), answer.price)
         compare(f"{family} {k}", form, encode_answer(answer))
         for _ in range(DAMAGES):
             compare(*damaged(rng, graph, answer))
     print(f"{family}: {len(graphs)} graphs")
 
 print("pairs by number:", dict(sorted(numbers.items())))
-holds_that(sorted(numbers), [0, 1, 2, 3, 4, 5, 6, 7] + list(range(11, 23)), lambda: "numbers that came up")
-print(f"{passed} passed, 0 failed")
+holds_that("numbers that came up", sorted(numbers), [*range(8), *range(11, 23)])
+end()

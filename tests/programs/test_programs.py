@@ -2,7 +2,8 @@
 
     python3 tests/programs/test_programs.py [SEED]
 
-recheck: the listing of the answers that the second solver finds, of damaged pairs, of missing, empty and too long files.
+recheck: the listing of the answers that the second solver finds, of damaged pairs, of missing, empty and too long files; and that it
+reads each file once, as every program that can open files must.
 assemble and answer: refusals as the reference has them; the price is the second solver's, and what `answer` writes is accepted by the
 reference; the listing is that of the answer, and `recheck` prints it too.
 """
@@ -14,29 +15,33 @@ import sys
 import tempfile
 
 ROOT = os.path.join(os.path.dirname(os.path.abspath(__file__)), "..", "..")
-for folder in ("tests/reference", "tests/solver"):
+for folder in ("tests", "tests/reference", "tests/solver"):
     sys.path.insert(0, os.path.join(ROOT, folder))
 
 from bound import bound
-from cases import D, D_ANSWER, D_WITH_3, D_WITH_3_ANSWER, D_WITH_READ, L, NO_END, NONE_ASKED, NONE_ASKED_ANSWER, ONE, ONE_ANSWER, X
+from cases import (D, D_ANSWER, D_WITH_3, D_WITH_3_ANSWER, D_WITH_READ, L, NO_END, NONE_ASKED, NONE_ASKED_ANSWER, ONE, ONE_ANSWER, X,
+                   X_ANSWER)
 from damage import damaged
 from exists import refusal_of_builder
 from forms import LONGEST_ANSWER, Refused, accept, encode_answer, encode_graph, read_graph
 from generate import make
 from network import solve
+from readings import swapped, through_pipes, touched
+from tally import end, must
+from tally import holds_that as counted
 
 LONGEST_INPUT = 65_536
 
-passed = failed = 0
+# Each program that sees the toolchain's library of files, `os`, and the files that it reads.
+READS_FILES = {"recheck": ("graph.bin", "cover.bin")}
 
 
 def holds_that(got, wanted, what):
-    global passed, failed
-    if got == wanted:
-        passed += 1
-    else:
-        failed += 1
-        print(f"{what}: got {got!r}, wanted {wanted!r}")
+    counted(what, got, wanted)
+
+
+def command(program):
+    return [os.path.realpath(os.path.join(ROOT, "tools", "run")), program]
 
 
 def run(program, stdin=b"", files={}):
@@ -48,8 +53,8 @@ def run(program, stdin=b"", files={}):
             else:
                 with open(os.path.join(room, name), "wb") as f:
                     f.write(data)
-        done = subprocess.run([os.path.realpath(os.path.join(ROOT, "tools", "run")), program], input=stdin, capture_output=True, cwd=room)
-        assert done.returncode == 0, (program, done)
+        done = subprocess.run(command(program), input=stdin, capture_output=True, cwd=room)
+        must(done.returncode == 0, f"{program} ended with {done.returncode}: {done.stderr}")
         return done.stdout, done.stderr
 
 
@@ -98,6 +103,15 @@ def try_assemble(what, graph, price=None):
         holds_that(int(listed.split()[2]), price, f"assemble, {what}, price")
 
 
+def try_readings(what, program, pair, other):
+    """The program lists the pair of forms however its files are given, and reads each of them once."""
+    files, others = dict(zip(READS_FILES[program], pair)), dict(zip(READS_FILES[program], other))
+    holds_that(through_pipes(command(program), files), listing(*pair), f"{program}, {what}, pipes that give their bytes once")
+    holds_that(swapped(command(program), files, others), listing(*pair), f"{program}, {what}, files that are swapped once they are open")
+    for name, events in touched(command(program), files).items():
+        holds_that(events, ["opened", "read", "closed"] if files[name] else ["opened", "closed"], f"{program}, {what}, what happens to {name}")
+
+
 def stretched(data, length):
     """The bytes with as many zeros behind them as make that length, and a length word that fits."""
     return length.to_bytes(4, "big") + data[4:] + bytes(length - len(data))
@@ -131,6 +145,22 @@ for what, g in (("nothing", b""), ("12 bytes", graph[:12]), ("a cut graph", grap
                 ("a graph that is too long", stretched(graph, LONGEST_INPUT + 1)), ("far too much", bytes(5 * LONGEST_INPUT))):
     try_assemble(what, g)
 
+# Each file is read once, and what is listed comes from the bytes held.
+with open(os.path.join(ROOT, "crates.txt")) as f:
+    crates = dict(line.split(":") for line in f if ":" in line and not line.startswith("#"))
+for program in crates:
+    if "os" in crates[program].split() and os.path.exists(os.path.join(ROOT, "crates", program, "src", "main.rt")):
+        holds_that(program in READS_FILES, True, f"{program} can open files: its readings are tried")
+pairs = [(encode_graph(g), encode_answer(a)) for g, a in ((D, D_ANSWER), (D_WITH_3, D_WITH_3_ANSWER), (X, X_ANSWER))]
+unsound = (graph, encode_answer(D_ANSWER._replace(price=33)))
+for program in READS_FILES:
+    for what, pair, other in (("D, then X", pairs[0], pairs[2]), ("X, then D", pairs[2], pairs[0]), ("D with demand 3, then D", pairs[1], pairs[0]),
+                              ("a wrong price, then D", unsound, pairs[0]), ("D, then a wrong price", pairs[0], unsound),
+                              ("D, then nothing", pairs[0], (b"", b"")), ("nothing, then D", (b"", b""), pairs[0]),
+                              ("the longest that is looked at, then X", (graph, stretched(answer, LONGEST_INPUT)), pairs[2]),
+                              ("an answer that is too long, then X", (graph, stretched(answer, LONGEST_INPUT + 1)), pairs[2])):
+        try_readings(what, program, pair, other)
+
 # The document's rows.
 for what, g, a in (("D with demand 3", D_WITH_3, D_WITH_3_ANSWER), ("one vertex", ONE, ONE_ANSWER), ("nothing asked", NONE_ASKED, NONE_ASKED_ANSWER)):
     try_recheck(what, encode_graph(g), encode_answer(a))
@@ -153,5 +183,4 @@ for family, count in (("small", 12), ("small_reads", 6), ("genes", 12), ("splici
             how, *pair = damaged(rng, g, a)
             try_recheck(f"{family} {k}, {how}", *pair)
 
-print(f"{passed} passed, {failed} failed")
-sys.exit(failed > 0)
+end()

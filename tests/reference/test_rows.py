@@ -1,5 +1,10 @@
 """The rows of "Numbers to hold against the definitions", each held against the reference. Run: python3 tests/reference/test_rows.py"""
 
+import os
+import sys
+
+sys.path.insert(0, os.path.join(os.path.dirname(os.path.abspath(__file__)), ".."))
+
 from bound import bound, first_slack_below_0, rests
 from cases import (D, D_ANSWER, D_MARKS, D_WITH_3, D_WITH_3_ANSWER, D_WITH_READ, L, L_ANSWER, NONE_ASKED, NONE_ASKED_ANSWER,
                    NO_END, ONE, ONE_ANSWER, X, X_ANSWER)
@@ -7,14 +12,7 @@ from exists import refusal_of_builder
 from forms import (LONGEST_ANSWER, LONGEST_GRAPH, Answer, Graph, check, decode_answer, decode_graph, encode_answer,
                    encode_graph, hand_out, read_graph)
 from prepare import prepare
-
-passed = 0
-
-
-def holds_that(what, got, wanted):
-    global passed
-    assert got == wanted, f"{what}: got {got}, wanted {wanted}"
-    passed += 1
+from tally import end, holds_that
 
 
 def accepted(what, graph, answer):
@@ -82,4 +80,4 @@ holds_that("a read met with others between", check(encode_graph(D._replace(arcs=
 joined_in_file_order = [(0, 1, 2, 4), (1, 2, 3)]
 holds_that("L is not joined in file order", sorted(prepare(L.reads)) == sorted(joined_in_file_order), False)
 
-print(f"{passed} passed, 0 failed")
+end()

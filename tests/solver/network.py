@@ -12,12 +12,14 @@ import subprocess
 import sys
 
 HERE = os.path.dirname(os.path.abspath(__file__))
-sys.path.insert(0, os.path.join(HERE, "..", "reference"))
+for folder in ("..", os.path.join("..", "reference")):
+    sys.path.insert(0, os.path.join(HERE, folder))
 
 from bound import rests
 from exists import first_without_path
 from forms import Answer, is_end, is_start
 from prepare import prepare
+from tally import must
 
 PROGRAM = os.path.join(HERE, "built", "cancel")
 
@@ -88,7 +90,7 @@ def answer_of(graph, edges, price, flow, potential):
         if cycle is None:
             break
         amount = min(spare[e] for e in cycle)
-        assert sum(edges[e][3] for e in cycle) == 0
+        must(sum(edges[e][3] for e in cycle) == 0, f"copies that nothing asks for cost something: {graph}")
         for e in cycle:
             flow[e] -= amount
     weights = {}
@@ -101,7 +103,7 @@ def answer_of(graph, edges, price, flow, potential):
         weights[path] = weights.get(path, 0) + amount
         for e in cycle:
             flow[e] -= amount
-    assert not any(flow)
+    must(not any(flow), f"the flow does not go round: {graph}")
     marks = [(potential[before(v)], potential[behind(v)]) for v in range(len(graph.vertices))]
     return Answer(price, marks, [(weight, path) for path, weight in sorted(weights.items())])
 
@@ -114,8 +116,10 @@ def solve(graphs):
         problems.append(f"{1 + 2 * len(graphs[k].vertices)} {len(edges)}")
         problems += [f"{a} {b} {lower} {cost}" for a, b, lower, cost, _ in edges]
     done = subprocess.run([compiled()], input="\n".join(problems), capture_output=True, text=True, check=True)
+    lines = done.stdout.splitlines()
+    must(len(lines) == len(todo), f"{len(lines)} answers to {len(todo)} problems")
     answers = [None] * len(graphs)
-    for (k, edges), line in zip(todo, done.stdout.splitlines()):
+    for (k, edges), line in zip(todo, lines):
         numbers = list(map(int, line.split()))
         answers[k] = answer_of(graphs[k], edges, numbers[0], numbers[1:1 + len(edges)], numbers[1 + len(edges):])
     return answers

@@ -16,17 +16,15 @@ from forms import Answer, check, encode_answer, encode_graph, read_graph
 from generate import make
 import bound
 import prepare
+from tally import end
+from tally import holds_that as counted
 
 SMALL = 4000
 LARGE = {"genes": 133, "splicing": 300, "hard_reads": 300, "dense": 60, "wide_demands": 60, "limits": 30}
 
-passed = 0
-
 
 def holds_that(got, wanted, graph, what):
-    global passed
-    assert got == wanted, f"{what}: got {got}, wanted {wanted}, at {graph}"
-    passed += 1
+    counted(lambda: f"{what}, at {graph}", got, wanted)
 
 
 def price_of(answer):
@@ -121,4 +119,4 @@ if __name__ == "__main__":
     must_be_caught("that joins reads in file order", reads, prepare=joined_in_file_order, rests=rests_with(joined_in_file_order))
     must_be_caught("that joins no reads", reads, prepare=not_joined, rests=rests_with(not_joined))
     must_be_caught("that counts demands in full beside the reads", reads, rests=rests_in_full)
-    print(f"{passed} passed, 0 failed")
+    end()

@@ -4,10 +4,10 @@
  * A case is a letter and its parts; a part is a length (four bytes, high byte first) and that many bytes.
  *   r graph                 NUMBER PLACE
  *   c graph answer          NUMBER PLACE
- *   h graph answer k room   NUMBER PLACE COUNT BYTES    (k: a part of eight bytes, room: four bytes; both high byte first)
- *   b graph room            NUMBER PLACE COUNT BYTES
- * BYTES are hexadecimal, the first COUNT of the output, '-' for none. Where a byte changed that may not, the line goes on with
- * 'changed' and where.
+ *   h graph answer k        NUMBER PLACE OFFSET COUNT BYTES    (k: eight bytes, high byte first)
+ *   b graph room            NUMBER PLACE COUNT BYTES           (room: four bytes, high byte first)
+ * BYTES are hexadecimal, '-' for none: the COUNT bytes of the answer from OFFSET on, or the first COUNT of the output. Where the part
+ * does not lie within the answer, 'outside' stands for them. Where a byte changed that may not, the line goes on with 'changed' and where.
  *
  * Each lent buffer lies in pages of its own, filled with a pattern, between two pages that may not be touched: in turn at the very end
  * of its pages, so that a byte read or written behind it ends the driver, and at the very beginning, for a byte before it.
@@ -98,6 +98,24 @@ static void look_at_input(const char *name, const struct lent *buffer, int which
     if (changed(buffer, buffer->length) >= 0) say_changed(name, changed(buffer, buffer->length));
 }
 
+static void say_bytes(const uint8_t *from, size_t length) {
+    printf(length == 0 ? " -" : " ");
+    for (size_t i = 0; i < length; i++) printf("%02x", from[i]);
+}
+
+/* Number, place, offset and length, then the bytes that stand there in the answer. */
+static void say_part(const struct lent *answer, struct handed_out_part got) {
+    say_refusal((struct refusal){got.number, got.place});
+    printf(" ");
+    say(got.offset);
+    printf(" ");
+    say(got.length);
+    if (got.offset > answer->length || got.length > answer->length - got.offset)
+        printf(" outside");
+    else
+        say_bytes(answer->at + got.offset, (size_t)got.length);
+}
+
 /* Number, place and count, then the bytes: on a refusal none may have changed; else none behind those that were written. */
 static void say_output(const struct lent *out, struct refusal got, uint64_t count) {
     uint64_t number = got.number;
@@ -106,8 +124,7 @@ static void say_output(const struct lent *out, struct refusal got, uint64_t coun
     say(count);
     if (count > out->length || (number != 0 && count != 0)) printf(" changed count %llu", (unsigned long long)count);
     size_t own = number != 0 || count > out->length ? 0 : (size_t)count;
-    printf(own == 0 ? " -" : " ");
-    for (size_t i = 0; i < own; i++) printf("%02x", out->at[i]);
+    say_bytes(out->at, own);
     if (changed(out, own) >= 0) say_changed("out", changed(out, own));
 }
 
@@ -127,9 +144,7 @@ int main(void) {
             say_refusal(check_answer_form(graph.at, graph.length, answer.at, answer.length));
         } else if (kind == 'h') {
             uint64_t k = read_number(8);
-            place_in(&out, (size_t)read_number(4), turn / 4 % 2);
-            struct refusal got = hand_out_number(graph.at, graph.length, answer.at, answer.length, k);
-            say_output(&out, got, hand_out_path(graph.at, graph.length, answer.at, answer.length, k, out.at, out.length));
+            say_part(&answer, hand_out_path(graph.at, graph.length, answer.at, answer.length, k));
         } else if (kind == 'b') {
             place_in(&out, (size_t)read_number(4), turn / 2 % 2);
             struct built_form built = build_answer_form(graph.at, graph.length, out.at, out.length);

@@ -5,7 +5,7 @@ the second solvers (tests/solver).
 
 Number and place must be equal on good and damaged forms; built answers must be accepted by both checkers, at the price that the second
 solver found; each lowest-price cover that the second solvers found must be accepted with sound marks; each path must be handed out as it
-stands in the answer. The driver looks at every byte that may not change.
+stands in the answer, and where it stands there. The driver looks at every byte that may not change.
 """
 
 import os
@@ -24,7 +24,7 @@ import make_reader_vectors
 from cases import D, D_ANSWER, D_WITH_3, D_WITH_3_ANSWER, L, L_ANSWER, X, X_ANSWER
 from damage import damaged, every_single, with_length
 from exists import refusal_of_builder
-from forms import LONGEST_ANSWER, Answer, Refused, accept, check, encode_answer, encode_graph, hand_out, read_graph
+from forms import LONGEST_ANSWER, Answer, Refused, accept, check, decode_answer, decode_graph, encode_answer, encode_graph, hand_out, read_graph
 from generate import LISTS, make
 from network import solve
 
@@ -40,6 +40,13 @@ numbers = Counter()
 
 def part(data):
     return len(data).to_bytes(4, "big") + data
+
+
+def vertices_at(graph_form, answer_form, k):
+    """Where the vertices of path k stand in an answer form: behind the header, the marks, the paths before and its own weight and count."""
+    graph = decode_graph(graph_form)
+    answer = decode_answer(answer_form, graph)
+    return 15 + 8 * len(graph.vertices) + sum(5 + len(path) for _, path in answer.paths[:k]) + 5
 
 
 class Batch:
@@ -58,11 +65,10 @@ class Batch:
     def add_check(self, name, graph, answer, wanted=None):
         self.add(name, b"c" + part(graph) + part(answer), equals(wanted or check(graph, answer)))
 
-    def add_hand_out(self, name, graph, answer, k, room=64):
+    def add_hand_out(self, name, graph, answer, k):
         number, place, path = hand_out(graph, answer, k)
-        if len(path) > room:
-            path = b""
-        self.add(name, b"h" + part(graph) + part(answer) + k.to_bytes(8, "big") + room.to_bytes(4, "big"), equals((number, place, len(path), path.hex() or "-")))
+        offset = 0 if number else vertices_at(graph, answer, k)
+        self.add(name, b"h" + part(graph) + part(answer) + k.to_bytes(8, "big"), equals((number, place, offset, len(path), path.hex() or "-")))
 
     def add_build(self, name, graph, room, keep):
         """Builds; an answer that is written goes to keep(bytes)."""
@@ -131,8 +137,8 @@ def stored(batch):
         for name, g, a in every_single(graph, answer):
             batch.add_check(name, g, a)
     batch.run("stored pairs, and each single fault of four pairs")
-    for room in range(5):
-        batch.add_hand_out(f"D, room {room}", encode_graph(D), d_answer, 1, room)
+    for k in (0, 1, 2, 2**32, 2**64 - 1):
+        batch.add_hand_out(f"D, path {k}", encode_graph(D), d_answer, k)
     for room in (0, 1, 14, 32_542, 32_543, 32_544, 40_960):
         for name, graph in (("D", D), ("X", X)):
             batch.add_build(f"{name}, room {room}", encode_graph(graph), room, lambda answer: None)
@@ -169,7 +175,8 @@ def other_covers(graph, answer, rng, times):
             price, cover = exhaustive.lowest_price(graph)
         finally:
             exhaustive.every_path = every_path
-        assert price == answer.price, f"the second solvers differ: {graph}"
+        if price != answer.price:
+            raise RuntimeError(f"the second solvers differ: {graph}")
         seen.add(tuple(cover))
     return [Answer(answer.price, answer.marks, [(weight, path) for path, weight in cover]) for cover in sorted(seen)]
 
@@ -187,7 +194,8 @@ def family(batch, name, graphs, rng, small):
             batch.add_build(f"{what}, one byte short", form, LONGEST_ANSWER - 1, lambda written: None)
             batch.add_build(f"{what}, room to spare", form, LONGEST_ANSWER + 1 + k % 1000, lambda written: None)
         if answer is None:
-            assert not small or exhaustive.lowest_price(graph)[0] is None, f"the second solvers differ: {graph}"
+            if small and exhaustive.lowest_price(graph)[0] is not None:
+                raise RuntimeError(f"the second solvers differ: {graph}")
             continue
         for found in [answer] + (other_covers(graph, answer, rng, 3) if small else []):
             covers += 1
@@ -195,7 +203,7 @@ def family(batch, name, graphs, rng, small):
             if small and k % 5 or not small and len(found.paths) > 40:
                 continue
             for p in range(len(found.paths) + 1):
-                batch.add_hand_out(f"{what}, path {p}", form, encode_answer(found), p, rng.choice((64, 64, 64, 5)))
+                batch.add_hand_out(f"{what}, path {p}", form, encode_answer(found), p)
         for _ in range(DAMAGES):
             batch.add_check(f"{what}, damaged", *damaged(rng, graph, answer)[1:])
     batch.run(f"{name}, {len(graphs)} graphs, {covers} covers of the second solvers")

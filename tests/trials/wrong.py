@@ -24,6 +24,11 @@ BUILD = """
     let built = builder::build::build(graph, out);
 """ + GIVE
 
+# What a hand-out's body ends with.
+PART = """
+    HandedOutPart { number: found.number as u64, place: found.place as u64, offset: found.offset as u64, length: found.length as u64 }
+"""
+
 # What is wrong, the call, and its new body, with the functions that this needs behind it.
 WRONG = [
     ("a reader that gives 6 for 7", "read_graph_form", """
@@ -54,17 +59,19 @@ WRONG = [
     Refusal { number, place: verdict.place as u64 }
 """),
     ("a hand-out that always gives the first path", "hand_out_path", """
-    let part = checker::check::hand_out(graph, answer, 0);
-    copy_where_room(part, out) as u64
-"""),
-    ("a hand-out that clears the byte behind the path", "hand_out_path", """
-    let part = checker::check::hand_out(graph, answer, k as usize);
-    let count = copy_where_room(part, out);
-    if count < out.len() {
-        out[count] = 0;
+    let found = checker::check::find_path(graph, answer, 0);
+""" + PART),
+    ("a hand-out of a single vertex from another byte of the same value", "hand_out_path", """
+    let found = checker::check::find_path(graph, answer, k as usize);
+    let at = found.offset;
+    if found.length == 1 {
+        if at < answer.len() {
+            if answer[0] == answer[at] {
+                return HandedOutPart { number: 0, place: 0, offset: 0, length: 1 };
+            }
+        }
     }
-    count as u64
-"""),
+""" + PART),
     ("a builder that gives 9 before 8", "build_answer_form", """
     if out.len() < 32543 {
         return BuiltForm { number: 9, place: 0, written: 0 };
@@ -93,13 +100,15 @@ WRONG = [
 """ + GIVE),
     # Covers with an odd demand of the first vertex, where there is such a cover; refusals are right.
     ("a builder that takes a copy too many through the first vertex", "build_answer_form", """
-    let mut other = [0; 3165];
-    copy_where_room(graph, &mut other);
-    other[17] = other[17] | 1;
-    let mut trial = [0; 32543];
-    let first = build_copy(&other, graph.len(), &mut trial);
-    if first.number == 0 {
-        return build_copy(&other, graph.len(), out);
+    if graph.len() <= 3165 {
+        let mut other = [0; 3165];
+        bytes::copy(graph, &mut other);
+        other[17] = other[17] | 1;
+        let mut trial = [0; 32543];
+        let first = build_copy(&other, graph.len(), &mut trial);
+        if first.number == 0 {
+            return build_copy(&other, graph.len(), out);
+        }
     }
 """ + BUILD.rstrip() + """
 }
@@ -131,6 +140,12 @@ def make_wrong(folder, call, body):
     with open(path, "w") as f:
         f.write(text[:start] + head + "\n{" + body.rstrip() + text[end:])
     shutil.rmtree(os.path.join(folder, "crates", "calls", "proofs", call), ignore_errors=True)
+    crates = os.path.join(folder, "crates.txt")
+    with open(crates) as f:
+        text = f.read()
+    # for a body that copies
+    with open(crates, "w") as f:
+        f.write(re.sub(r"^calls: .*", r"\g<0> bytes", text, flags=re.M))
 
 
 def tried(driver):

@@ -17,7 +17,7 @@ import random
 import sys
 
 ROOT = os.path.join(os.path.dirname(os.path.abspath(__file__)), "..", "..")
-for folder in ("tests/reference", "tests/solver"):
+for folder in ("tests", "tests/reference", "tests/solver"):
     sys.path.insert(0, os.path.join(ROOT, folder))
 
 import make_reader_vectors
@@ -29,6 +29,7 @@ from exists import refusal_of_builder
 from forms import LONGEST_ANSWER, LONGEST_GRAPH, MAX_COST, MAX_DEMAND, MAX_OPENING, Graph, check, decode_graph, encode_answer, encode_graph, read_graph
 from generate import asked_in_ways, make
 from make_reader_vectors import chain, with_length
+from tally import must
 
 SEED = 20240603
 vectors = []
@@ -115,7 +116,7 @@ for flags in range(4):
 # The limits: 64 vertices, 256 arcs, 16 overlapping reads of 16 vertices, demands 1,000,000; opening price 0 and 1,000,000,000.
 for k, graph in enumerate(make("limits", SEED, 8)):
     asked = Graph(0, [(flags, MAX_DEMAND) for flags, _ in graph.vertices], [arc[:3] + (MAX_DEMAND,) for arc in graph.arcs], graph.reads)
-    assert len(encode_graph(asked)) == LONGEST_GRAPH
+    must(len(encode_graph(asked)) == LONGEST_GRAPH, "the longest graph form is not as long as the limits allow")
     for opening in (0, MAX_OPENING):
         add(f"limits {k}, opening {opening}", asked._replace(opening=opening))
 # The top of every range: the dearest cover has 256 times 1,000,000 copies of an arc each.
@@ -149,8 +150,8 @@ def solved():
         if k in answers:
             price, answer = answers[k].price, encode_answer(answers[k])
             small = len(graphs[k].vertices) <= 8 and asked_in_ways(graphs[k]) <= 20_000
-            assert check(form, answer) == (0, 0) and (not small or lowest_price(graphs[k])[0] == price), name
-        assert stated.get(k) in (None, price if k in answers else refusals[k]), name
+            must(check(form, answer) == (0, 0) and (not small or lowest_price(graphs[k])[0] == price), name)
+        must(stated.get(k) in (None, price if k in answers else refusals[k]), name)
         yield name, (*refusals[k], price, int(k in answers), check(form, answer)[0], *refusal_of_builder(form, LONGEST_ANSWER - 1), 0)
 
 
@@ -160,5 +161,5 @@ if __name__ == "__main__":
     counts = {number: sum(1 for _, answer in answers if answer[0] == number) for number in range(9)}
     short = sum(1 for _, answer in answers if answer[5] == 9)
     summary = f"{len(vectors)} vectors, {len(stdin)} bytes, seed {SEED}; by number: {counts}; 9 in {short} of them"
-    assert len(stdin) < 400_000 and max(len(form) for _, form in vectors) <= 4096 and all(counts.values()), summary
+    must(len(stdin) < 400_000 and max(len(form) for _, form in vectors) <= 4096 and all(counts.values()), summary)
     stored.keep("builder_vectors", stdin, [(name, " ".join(map(str, answer))) for name, answer in answers], summary)

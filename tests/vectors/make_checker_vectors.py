@@ -15,7 +15,8 @@ import random
 import sys
 
 ROOT = os.path.join(os.path.dirname(os.path.abspath(__file__)), "..", "..")
-sys.path.insert(0, os.path.join(ROOT, "tests", "reference"))
+for folder in ("tests", "tests/reference"):
+    sys.path.insert(0, os.path.join(ROOT, folder))
 
 import make_reader_vectors
 import stored
@@ -25,6 +26,7 @@ from damage import damaged, every_single
 from forms import (LONGEST_ANSWER, LONGEST_GRAPH, MAX_COST, MAX_DEMAND, MAX_MARK, MAX_OPENING, MAX_PATHS, MAX_WEIGHT, Answer, Graph, encode_answer,
                    encode_graph, hand_out, price_of_cover, read_graph)
 from make_reader_vectors import R, put, with_arcs, with_length
+from tally import must
 
 SEED = 20240602
 FAR = (2**32 - 1, 2**32, 2**63, 2**64 - 1)
@@ -253,7 +255,7 @@ for i, j in itertools.combinations(range(64), 2):
         long_paths.add(tuple(v for v in whole if v not in (i, j)))
 long_paths = sorted(long_paths)
 top = asking._replace(vertices=[(3, 1)] * 64, arcs=[(tail, head, 0, 0) for tail, head, _, _ in asking.arcs])
-assert len(encode_graph(top)) == LONGEST_GRAPH
+must(len(encode_graph(top)) == LONGEST_GRAPH, "the longest graph form is not as long as the limits allow")
 rest = MAX_WEIGHT - (MAX_PATHS - 1)
 most = nothing._replace(paths=[(1, path) for path in long_paths[:MAX_PATHS - 1]] + [(rest, long_paths[MAX_PATHS - 1])])
 for k in (0, 1, MAX_PATHS - 1, MAX_PATHS):
@@ -265,7 +267,7 @@ add("464 long paths, the last two equal", top, with_path(most, MAX_PATHS - 1, 1,
 for k, count in ((0, MAX_PATHS), (5, MAX_PATHS - 1)):
     form = encode_answer(nothing._replace(paths=[(1, whole)] * count))
     add(f"{count} times the longest path", top, form, k)
-    assert count < MAX_PATHS or len(form) == LONGEST_ANSWER
+    must(count < MAX_PATHS or len(form) == LONGEST_ANSWER, "the longest answer form is not as long as the limits allow")
 two_steps = Graph(0, [(1 if v < 32 else 2, MAX_DEMAND) for v in range(64)],
                   [(tail, 32 + (tail + step) % 32, MAX_COST, MAX_DEMAND) for tail in range(32) for step in range(8)], [])
 two_steps = two_steps._replace(opening=MAX_OPENING, arcs=sorted(two_steps.arcs))
@@ -358,6 +360,6 @@ if __name__ == "__main__":
         number = int(line.split()[2])
         counts[number] = counts.get(number, 0) + 1
     summary = f"{len(lines)} vectors, {len(stdin)} bytes, seed {SEED}; by number: {dict(sorted(counts.items()))}"
-    assert sorted(counts) == [*range(8), *range(11, 24)], summary
-    assert len(stdin) < 1_500_000 and max(len(graph) for graph in groups) <= 4096 and max(len(v[2]) for v in vectors) <= 65_536, summary
+    must(sorted(counts) == [*range(8), *range(11, 24)], summary)
+    must(len(stdin) < 1_500_000 and max(len(graph) for graph in groups) <= 4096 and max(len(v[2]) for v in vectors) <= 65_536, summary)
     stored.keep("checker_vectors", stdin, lines, summary)

@@ -12,11 +12,13 @@ import random
 import sys
 
 ROOT = os.path.join(os.path.dirname(os.path.abspath(__file__)), "..", "..")
-sys.path.insert(0, os.path.join(ROOT, "tests", "reference"))
+for folder in ("tests", "tests/reference"):
+    sys.path.insert(0, os.path.join(ROOT, folder))
 
 import stored
 from cases import D, L, NONE_ASKED, ONE, X
 from forms import LONGEST_GRAPH, Graph, encode_graph, read_graph
+from tally import must
 
 SEED = 20240601
 vectors = []
@@ -68,7 +70,7 @@ def with_arcs(vertices, arcs):
 d, r = encode_graph(D), encode_graph(R)
 longest_graph = with_arcs(64, 256)._replace(opening=1_000_000_000, reads=[tuple(range(k, k + 16)) for k in range(16)])
 longest = encode_graph(longest_graph)
-assert len(longest) == LONGEST_GRAPH
+must(len(longest) == LONGEST_GRAPH, "the longest graph form is not as long as the limits allow")
 
 # The document's own graphs.
 for name, graph in (("D", D), ("R", R), ("L", L), ("X", X), ("one vertex", ONE), ("one vertex, nothing asked", NONE_ASKED)):
@@ -237,6 +239,6 @@ answers = [read_graph(data) for _, data in vectors]
 
 if __name__ == "__main__":
     counts = {number: sum(1 for answer in answers if answer[0] == number) for number in range(8)}
-    assert max(len(data) for _, data in vectors) <= 4096 and all(counts.values())
+    must(max(len(data) for _, data in vectors) <= 4096 and all(counts.values()), f"a form is too long, or a number does not come up: {counts}")
     lines = [(name, f"{number} {place}") for (name, _), (number, place) in zip(vectors, answers)]
     stored.keep("reader_vectors", stdin, lines, f"{len(vectors)} vectors, {len(stdin)} bytes, seed {SEED}; by number: {counts}")

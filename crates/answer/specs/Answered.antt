@@ -4,19 +4,16 @@ use mathlib.Core.Path.{_≡_}
 use mathlib.Core.List.{List, []}
 use mathlib.Core.Bool.{cond}
 use mathlib.Core.Logic.{_≢_}
-use lib.Dec.{ltb, eqb}
-use lib.ListN.{length}
+use lib.Dec.{eqb}
+use lib.ListN.{take}
 use Rattle.forms.specs.declared.Verdict.{Verdict}
-use Rattle.forms.specs.GraphFaults.{refusal, nothingRefused}
+use Rattle.forms.specs.AnswerForm.{statedPrice}
+use Rattle.forms.specs.GraphFaults.{nothingRefused}
 use Rattle.checker.specs.Check.{checkVerdict}
-use Rattle.forms.specs.BuildFaults.{roomAsked, buildVerdict}
-use Rattle.listing.specs.Text.{refusedLine}
-use Rattle.listing.specs.Listing.{longestInput, Writes}
+use Rattle.text.specs.Text.{Writes}
+use Rattle.listing.specs.Lines.{refusedLine}
+use Rattle.listing.specs.Listing.{inputVerdict}
 use Rattle.answer.specs.declared.Written.{Written}
-
--- what graph bytes of any length are refused by
-unfoldable pub answerVerdict : List ℕ → Verdict
-answerVerdict s = cond (ltb longestInput (length s)) (refusal 1 0) (buildVerdict s roomAsked)
 
 -- the line of a refusal; nothing where nothing is refused
 unfoldable pub lineOf : Verdict → List ℕ
@@ -26,8 +23,16 @@ lineOf v = cond (eqb (v .number) 0) [] (refusedLine (v .number) (v .place))
 pub record Answered (s out out′ err err′ : List ℕ) (r : Written) : Type 0 where
   pub form : List ℕ
   -- where nothing is refused, an answer form that the checker accepts with that graph
-  pub accepted : answerVerdict s .number ≡ 0 → checkVerdict s form ≡ nothingRefused
+  pub accepted : inputVerdict s .number ≡ 0 → checkVerdict s form ≡ nothingRefused
   -- where something is, nothing
-  pub refused : answerVerdict s .number ≢ 0 → form ≡ []
+  pub refused : inputVerdict s .number ≢ 0 → form ≡ []
   pub writes-form : Writes out form out′ (r .form)
-  pub writes-line : Writes err (lineOf (answerVerdict s)) err′ (r .line)
+  pub writes-line : Writes err (lineOf (inputVerdict s)) err′ (r .line)
+
+-- What two results for the same graph bytes have in common: every byte and the count for standard error; for standard output too where something is refused; where
+-- nothing is, both are answers that the checker accepts, and at one price. "The builder's choice among lowest-price covers, and of marks, is the exception".
+pub record AnsweredAlike (s out′ out″ err′ err″ : List ℕ) (r r′ : Written) : Type 0 where
+  pub same-line : (err′ ≡ err″) × (r .line ≡ r′ .line)
+  pub same-refused : inputVerdict s .number ≢ 0 → (out′ ≡ out″) × (r .form ≡ r′ .form)
+  pub both-accepted : inputVerdict s .number ≡ 0 → (checkVerdict s (take (r .form) out′) ≡ nothingRefused) × (checkVerdict s (take (r′ .form) out″) ≡ nothingRefused)
+  pub same-price : inputVerdict s .number ≡ 0 → statedPrice (take (r .form) out′) ≡ statedPrice (take (r′ .form) out″)

@@ -6,7 +6,7 @@ use libc::STDERR_FILENO;
 use libc::STDIN_FILENO;
 use libc::STDOUT_FILENO;
 use listing::LONGEST_INPUT;
-use listing::ROOM;
+use listing::LONGEST_LISTING;
 use listing::list_refusal;
 ghost use Rattle.answer.specs.Answered.{Answered};
 
@@ -16,21 +16,23 @@ struct Written {
     line: usize,
 }
 
-// Writes the answer form to the front of `out`, or the refusal's line to the front of `err`.
-fn answer(graph: &[u8], out: &mut [u8; Answer::LONGEST], err: &mut [u8; ROOM]) -> Written
+// Writes the answer form to the front of `out`, or the refusal's line to the front of `err`, which takes every line.
+fn answer(graph: &[u8], out: &mut [u8; Answer::LONGEST], err: &mut [u8; LONGEST_LISTING]) -> Written
     ensures { λ r. ⌜ Answered (now (graph .entry)) (now (out .entry)) (now (out .exit)) (now (err .entry)) (now (err .exit)) r ⌝ }
 {
     if graph.len() > LONGEST_INPUT {
+        let refused = list_refusal(1, 0, err);
         return Written {
             form: 0,
-            line: list_refusal(1, 0, err),
+            line: refused.written,
         };
     }
     let built = build(graph, out);
     if built.number != 0 {
+        let refused = list_refusal(built.number, built.place, err);
         return Written {
             form: 0,
-            line: list_refusal(built.number, built.place, err),
+            line: refused.written,
         };
     }
     Written {
@@ -44,7 +46,7 @@ fn main() {
     let mut graph = [0u8; LONGEST_INPUT + 1];
     let length = io::read_full(STDIN_FILENO, &mut graph);
     let mut out = [0u8; Answer::LONGEST];
-    let mut err = [0u8; ROOM];
+    let mut err = [0u8; LONGEST_LISTING];
     let written = answer(&graph[..length], &mut out, &mut err);
     let form = written.form;
     let line = written.line;

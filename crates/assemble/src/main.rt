@@ -4,32 +4,35 @@ use checker::Answer;
 use libc::STDIN_FILENO;
 use libc::STDOUT_FILENO;
 use listing::LONGEST_INPUT;
-use listing::ROOM;
+use listing::LONGEST_LISTING;
 use listing::list_cover;
 use listing::list_refusal;
 ghost use Rattle.assemble.specs.Assemble.{Assembled};
 
-// Writes the listing to the front of `text` and returns how many bytes it has.
-fn assemble(graph: &[u8], text: &mut [u8; ROOM]) -> usize
+// Writes the listing to the front of `text`, which takes every listing, and returns how many bytes it has.
+fn assemble(graph: &[u8], text: &mut [u8; LONGEST_LISTING]) -> usize
     ensures { λ r. ⌜ Assembled (now (graph .entry)) (now (text .entry)) (now (text .exit)) r ⌝ }
 {
     if graph.len() > LONGEST_INPUT {
-        return list_refusal(1, 0, text);
+        let refused = list_refusal(1, 0, text);
+        return refused.written;
     }
     let mut answer = [0u8; Answer::LONGEST];
     let built = build(graph, &mut answer);
     if built.number != 0 {
-        return list_refusal(built.number, built.place, text);
+        let refused = list_refusal(built.number, built.place, text);
+        return refused.written;
     }
-    let written = built.written;
-    list_cover(graph, &answer[..written], text)
+    let length = built.written;
+    let listed = list_cover(graph, &answer[..length], text);
+    listed.written
 }
 
 fn main() {
     // One byte more than is looked at, so that a longer input is told apart.
     let mut graph = [0u8; LONGEST_INPUT + 1];
     let length = io::read_full(STDIN_FILENO, &mut graph);
-    let mut text = [0u8; ROOM];
+    let mut text = [0u8; LONGEST_LISTING];
     let written = assemble(&graph[..length], &mut text);
     io::write_all(STDOUT_FILENO, &text[..written]);
 }

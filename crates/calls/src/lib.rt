@@ -1,14 +1,11 @@
 // The library's calls for programs in C and Rust: functions on byte slices and numbers under plain names. From outside a slice is a
-// pointer and a length. Number and place are answered by value, so that only outputs are lent to be changed.
-ghost use Prim.Native.Nat.{_≤_};
+// pointer and a length. Number and place are answered by value, so that only an output is lent to be changed.
 ghost use mathlib.Core.Path.{_≡_};
-ghost use mathlib.Core.List.{_++_};
-ghost use lib.ListN.{length, drop};
 ghost use Rattle.forms.specs.GraphFaults.{refusal, graphVerdict};
-ghost use Rattle.checker.specs.Check.{checkVerdict, handOutVerdict, handedOut};
+ghost use Rattle.checker.specs.Check.{checkVerdict};
+ghost use Rattle.checker.specs.HandedOut.{PartFound};
 ghost use Rattle.builder.specs.Build.{BuildPromise};
 ghost use Rattle.coverage.specs.Demands.{DemandsPromise};
-ghost use Rattle.calls.specs.Copied.{copied, copiedCount};
 
 // Number and place of what is refused; both are 0 where nothing is.
 #[repr(C)]
@@ -17,7 +14,17 @@ pub struct Refusal {
     pub place: u64,
 }
 
-// The same, and how many bytes of an answer form were written: 0 where the graph or the output is refused.
+// The same, and the part of the answer that holds the vertices of a path: where it begins and how many bytes it has. The part is empty and
+// at the answer's front, both are 0, where the path is refused.
+#[repr(C)]
+pub struct HandedOutPart {
+    pub number: u64,
+    pub place: u64,
+    pub offset: u64,
+    pub length: u64,
+}
+
+// Number and place, and how many bytes of an answer form were written: 0 where the graph or the output is refused.
 #[repr(C)]
 pub struct BuiltForm {
     pub number: u64,
@@ -50,43 +57,18 @@ pub extern "C" fn check_answer_form(graph: &[u8], answer: &[u8]) -> Refusal
     told(checker::check::check(graph, answer))
 }
 
-// What handing out path k gives: numbers 1 to 7 and 11 to 23.
+// Hands out path k by its place in the answer that the caller holds: numbers 1 to 7 and 11 to 23.
 #[no_mangle]
-pub extern "C" fn hand_out_number(graph: &[u8], answer: &[u8], k: u64) -> Refusal
-    ensures { λ r. ⌜ refusal (r .number) (r .place) ≡ handOutVerdict (now (graph .entry)) (now (answer .entry)) k ⌝ }
+pub extern "C" fn hand_out_path(graph: &[u8], answer: &[u8], k: u64) -> HandedOutPart
+    ensures { λ r. ⌜ PartFound (now (graph .entry)) (now (answer .entry)) k (r .number) (r .place) (r .offset) (r .length) ⌝ }
 {
-    told(checker::check::hand_out_verdict(graph, answer, k as usize))
-}
-
-fn copy_front(part: &[u8], out: &mut [u8])
-    requires { ⌜ length (now part) ≤ length (now out) ⌝ }
-    ensures { λ _. ⌜ now (out .exit) ≡ now (part .entry) ++ drop (length (now (part .entry))) (now (out .entry)) ⌝ }
-{
-    let mut i = 0;
-    while i < part.len() {
-        out[i] = part[i];
-        i += 1;
+    let found = checker::check::find_path(graph, answer, k as usize);
+    HandedOutPart {
+        number: found.number as u64,
+        place: found.place as u64,
+        offset: found.offset as u64,
+        length: found.length as u64,
     }
-}
-
-fn copy_where_room(part: &[u8], out: &mut [u8]) -> usize
-    ensures { λ r. ⌜ (r ≡ copiedCount (now (part .entry)) (now (out .entry))) × (now (out .exit) ≡ copied (now (part .entry)) (now (out .entry))) ⌝ }
-{
-    if part.len() <= out.len() {
-        copy_front(part, out);
-        return part.len();
-    }
-    0
-}
-
-// Copies the vertices of path k, as they stand in the answer, to the front of the output, and answers how many there are; answers 0
-// and changes no byte where `hand_out_number` gives a number other than 0, or the output is shorter than the path. 64 bytes do.
-#[no_mangle]
-pub extern "C" fn hand_out_path(graph: &[u8], answer: &[u8], k: u64, out: &mut [u8]) -> u64
-    ensures { λ r. ⌜ (r ≡ copiedCount (handedOut (now (graph .entry)) (now (answer .entry)) k) (now (out .entry))) × (now (out .exit) ≡ copied (handedOut (now (graph .entry)) (now (answer .entry)) k) (now (out .entry))) ⌝ }
-{
-    let part = checker::check::hand_out(graph, answer, k as usize);
-    copy_where_room(part, out) as u64
 }
 
 // Writes the answer form of a lowest-price cover at the front of the output: numbers 1 to 9.

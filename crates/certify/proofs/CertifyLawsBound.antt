@@ -12,8 +12,8 @@ use Rattle.mathematics.specs.Bound.{vertexSlack, arcSlack}
 use Rattle.forms.specs.Limits.{markLimit, maxDemand, maxCost}
 use Rattle.forms.specs.GraphForm.{vertexDemand, arcAt, arcDemand}
 use Rattle.forms.specs.GraphOf.{arcOf}
-use Rattle.forms.specs.AnswerForm.{signed32, inMarkAt, outMarkAt, marksOf}
-use Rattle.certify.specs.Certify.{vertexSlackFault, arcSlackFault, vertexPart, arcPart, Part, sumFrom, Sum}
+use Rattle.forms.specs.AnswerForm.{signed32, inMarkAt, outMarkAt, answerMarks}
+use Rattle.certify.specs.Certify.{vertexSlackFault, arcSlackFault, vertexPart, arcPart, Part, sumFrom, Sum, mostSlack, mostPart}
 use Rattle.certify.proofs.CertifyLaws.{ArcRead, vertex-difference, vertex-crossed, arc-difference, arc-crossed}
 use Rattle.certify.proofs.CertifyLawsSlack.{low-difference}
 
@@ -22,10 +22,10 @@ number : (z : ℤ) (a b : ℕ) → z ≡ subℕ a b → b ≤ a → natAbs z ≡
 number z a b e h = ap natAbs (e ∙ low-difference a b h)
 
 -- what a part comes to at most
-pub small : (d slack : ℕ) → d ≤ maxDemand → slack ≤ 4001000000 → d * slack ≤ 4001000000000000
+pub small : (d slack : ℕ) → d ≤ maxDemand → slack ≤ mostSlack → d * slack ≤ mostPart
 small d slack h k = mul-le-mul h k
 
-module _ (s t : List ℕ) (v i o : ℕ) (into : signed32 t (inMarkAt v) ≡ subℕ i markLimit) (out : signed32 t (outMarkAt v) ≡ subℕ o markLimit) (held : vertexSlackFault s t v ≡ 0) where
+module _ (s t : List ℕ) (v i o : ℕ) (into : signed32 t (inMarkAt s v) ≡ subℕ i markLimit) (out : signed32 t (outMarkAt s v) ≡ subℕ o markLimit) (held : vertexSlackFault s t v ≡ 0) where
   pub vertex-ordered : o ≤ i
   vertex-ordered = go (decLe o i)
     where
@@ -37,11 +37,11 @@ module _ (s t : List ℕ) (v i o : ℕ) (into : signed32 t (inMarkAt v) ≡ sub�
   unfolding vertexPart
   vertex-part d reads e low few =
       record {
-        is = ap₂ _*_ e (sym (number (vertexSlack whole (marksOf t) v) i o (vertex-difference s t v i o into out) vertex-ordered));
+        is = ap₂ _*_ e (sym (number (vertexSlack whole (answerMarks s t) v) i o (vertex-difference s t v i o into out) vertex-ordered));
         low = small d (i - o) low (omega arith);
       }
 
-module _ (s t : List ℕ) (a u v cost i o : ℕ) (read : ArcRead s a u v cost) (into : signed32 t (inMarkAt v) ≡ subℕ i markLimit) (out : signed32 t (outMarkAt u) ≡ subℕ o markLimit) (held : arcSlackFault s t a ≡ 0) where
+module _ (s t : List ℕ) (a u v cost i o : ℕ) (read : ArcRead s a u v cost) (into : signed32 t (inMarkAt s v) ≡ subℕ i markLimit) (out : signed32 t (outMarkAt s u) ≡ subℕ o markLimit) (held : arcSlackFault s t a ≡ 0) where
   pub arc-ordered : i ≤ cost + o
   arc-ordered = go (decLe i (cost + o))
     where
@@ -53,7 +53,7 @@ module _ (s t : List ℕ) (a u v cost i o : ℕ) (read : ArcRead s a u v cost) (
   unfolding arcPart
   arc-part d reads e low few marked =
       record {
-        is = ap₂ _*_ e (sym (number (arcSlack whole (marksOf t) (arcOf s a)) (cost + o) i (arc-difference s t a u v cost i o read into out) arc-ordered));
+        is = ap₂ _*_ e (sym (number (arcSlack whole (answerMarks s t) (arcOf s a)) (cost + o) i (arc-difference s t a u v cost i o read into out) arc-ordered));
         low = small d (cost + o - i) low (omega arith);
       }
 
@@ -62,7 +62,7 @@ module _ (f : ℕ → ℕ) (n : ℕ) where
   pub record SumLeft (i sum : ℕ) : Type 0 where
     pub few : i ≤ n
     pub all : sum + sumFrom f (n - i) i ≡ sumFrom f n 0
-    pub low : sum ≤ 4001000000000000 * i
+    pub low : sum ≤ mostPart * i
 
   pub sum-begin : SumLeft 0 0
   sum-begin = record { few = omega arith; all = rw sub-zero (zero-add (sumFrom f n 0)); low = omega arith }

@@ -10,24 +10,26 @@ use lib.Dec.{eqb}
 use lib.ListN.{length, getD, drop, set, length-set, length-drop, drop-of-length-le, replicate, length-replicate}
 use lib.Seq.{drop-cons}
 use borrow.Author.Tests.{eqb-true}
-use Rattle.mathematics.specs.Cover.{Item, vert, arc, sameItem, oneIf, countOf, trail, through}
+use Rattle.mathematics.specs.Cover.{Item, vert, arc, sameItem, oneIf, countOf, trail}
 use Rattle.mathematics.specs.Bound.{readsThrough}
+use Rattle.mathematics.proofs.Basics.{all-at, at-all}
+use Rattle.mathematics.proofs.Items.{reads-few}
 use Rattle.forms.specs.declared.Found.the-variants.{At, Missing}
-use Rattle.forms.specs.Limits.{maxVertices, maxArcs}
+use Rattle.forms.specs.Limits.{roomVertices, roomArcs}
 use Rattle.forms.specs.GraphForm.{arcCount, arcAt, arcTail, arcHead}
 use Rattle.forms.specs.GraphOf.{arcsOf, arcItem}
 use Rattle.forms.specs.GraphReads.{ArcsRight}
 use Rattle.forms.specs.ArcTable.{arcNumber}
 use Rattle.certify.specs.Growth.{onward, Grown}
-use Rattle.reads.specs.ReadTable.{rowAt, rowsOf, RowHolds, TableHolds}
-use Rattle.certify.specs.Certify.{CountsLow, ArcPassed, Counted}
+use Rattle.reads.specs.ReadTable.{rowAt, rowsOf, RowHolds, TableHolds, rowLength}
+use Rattle.certify.specs.Certify.{CountsLow, ArcPassed, ReadsCounted, mostReads}
 use Rattle.certify.proofs.GrowthLaws.{found-arc, only-arc, grow, count-few, trail-onward, length-onward}
 use Rattle.forms.proofs.Lookup.{found-iff-goes}
 use Rattle.mathematics.specs.Lists.{All}
-use Rattle.reads.proofs.TableLaws.{row-get, at-all, all-at}
+use Rattle.reads.proofs.TableLaws.{row-get}
 use Rattle.reads.proofs.TableRows.{table-length, table-get, table-from, table-row}
 
-module _ (s : List ℕ) (right : ArcsRight s) (u v : ℕ) (counts : List ℕ) (long : length counts ≡ maxArcs) where
+module _ (s : List ℕ) (right : ArcsRight s) (u v : ℕ) (counts : List ℕ) (long : length counts ≡ roomArcs) where
   -- no arc goes from u to v: no arc is counted
   pub arc-none : Missing ≡ arcNumber (arcsOf s) u v → ArcPassed s u v counts counts
   arc-none e = record { long = long; each = λ a h. sym (ap (λ b. getD counts a 0 + oneIf b) (other a h (sameItem (arcItem s a) (arc u v)) refl) ∙ add-zero _) }
@@ -55,15 +57,15 @@ module _ (s : List ℕ) (right : ArcsRight s) (u v : ℕ) (counts : List ℕ) (l
           long = simp length-set long;
           each =
               λ a h.
-              let e = grow counts k 1 a 0 (omega (arith, long, arc-inside, right .header .few-arcs)) in
+              let e = grow counts k 1 a 0 (omega (arith, long, arc-inside, right .header .arcs-room)) in
               let same = ap oneIf (only-arc s right u v k a (found-arc s u v right k found) h) in
               omega (arith, e, same);
         }
 
 -- Of the read's vertices those from place k on are left, after u: with what they add, the counts are those of all after the first vertex f.
 pub record CountLeft (s row vb va ab aa : List ℕ) (f u k : ℕ) : Type 0 where
-  pub sized : (length va ≡ maxVertices) × (length aa ≡ maxArcs) × (u < maxVertices) × (k ≤ length row)
-  pub vertices : (x : ℕ) → x < maxVertices → getD va x 0 + countOf (vert x) (onward u (drop k row)) ≡ getD vb x 0 + countOf (vert x) (onward f (drop 1 row))
+  pub sized : (length va ≡ roomVertices) × (length aa ≡ roomArcs) × (u < roomVertices) × (k ≤ length row)
+  pub vertices : (x : ℕ) → x < roomVertices → getD va x 0 + countOf (vert x) (onward u (drop k row)) ≡ getD vb x 0 + countOf (vert x) (onward f (drop 1 row))
   pub arcs : (a : ℕ) → a < arcCount s → getD aa a 0 + countOf (arcItem s a) (onward u (drop k row)) ≡ getD ab a 0 + countOf (arcItem s a) (onward f (drop 1 row))
 
 -- a list that is not empty, by its first number
@@ -74,16 +76,16 @@ headed row h = drop-cons row 0 0 h
 onward-few : (i : Item) (f : ℕ) (q : List ℕ) → countOf i (onward f q) ≤ 2 * length q
 onward-few i f q = omega (arith, count-few i (onward f q), length-onward f q)
 
-pub count-begin : (s row vb ab : List ℕ) (f : ℕ) → length vb ≡ maxVertices → length ab ≡ maxArcs → 1 ≤ length row → f < maxVertices → CountLeft s row vb vb ab ab f f 1
+pub count-begin : (s row vb ab : List ℕ) (f : ℕ) → length vb ≡ roomVertices → length ab ≡ roomArcs → 1 ≤ length row → f < roomVertices → CountLeft s row vb vb ab ab f f 1
 count-begin s row vb ab f lv la some inside = record { sized = (lv, la, inside, some); vertices = λ x h. refl; arcs = λ a h. refl }
 
 -- one turn of the loop over the read's vertices
 module _ {s row vb va ab aa : List ℕ} {f u k : ℕ} (c : CountLeft s row vb va ab aa f u k) where
   -- a count has room for one more
-  pub arc-room : (a : ℕ) → a < arcCount s → length row ≤ 64 → getD ab a 0 ≤ 10000 → getD aa a 0 ≤ 20000
+  pub arc-room : (a : ℕ) → a < arcCount s → length row ≤ rowLength → getD ab a 0 ≤ mostReads → getD aa a 0 ≤ 2 * mostReads
   arc-room a h short low = omega (arith, c .arcs a h, onward-few (arcItem s a) f (drop 1 row), length-drop 1 row)
 
-  module _ (v : ℕ) (new : List ℕ) (h : k < length row) (e : v ≡ getD row k 0) (inside : v < maxVertices) (passed : ArcPassed s u v aa new) where
+  module _ (v : ℕ) (new : List ℕ) (h : k < length row) (e : v ≡ getD row k 0) (inside : v < roomVertices) (passed : ArcPassed s u v aa new) where
     left : drop k row ≡ v ∷ drop (k + 1) row
     left = drop-cons row k 0 h ∙ rw (e, add-one k)
 
@@ -106,8 +108,8 @@ one-more : (b : Bool) → oneIf b ≤ 1
 one-more true = le-refl 1
 one-more false = omega arith
 
-pub vertex-room : (vb : List ℕ) {s row va ab aa : List ℕ} {f u k : ℕ} → CountLeft s row (set vb f (getD vb f 0 + 1)) va ab aa f u k → (x : ℕ) → x < maxVertices → length row ≤ 64 →
-    f < length vb → getD vb x 0 ≤ 10000 → getD va x 0 ≤ 20000
+pub vertex-room : (vb : List ℕ) {s row va ab aa : List ℕ} {f u k : ℕ} → CountLeft s row (set vb f (getD vb f 0 + 1)) va ab aa f u k → (x : ℕ) → x < roomVertices → length row ≤ rowLength →
+    f < length vb → getD vb x 0 ≤ mostReads → getD va x 0 ≤ 2 * mostReads
 vertex-room vb {s} {row} {va} {ab} {aa} {f} c x h short inside low =
     omega (arith, c .vertices x h, onward-few (vert x) f (drop 1 row), length-drop 1 row, grow vb f 1 x 0 inside, one-more (eqb x f))
 
@@ -137,27 +139,18 @@ count-end {s} {row} {vb} {va} {ab} {aa} {f} {u} {k} c h some e inside =
     split : trail row ≡ vert f ∷ onward f (drop 1 row)
     split = ap trail (headed row some) ∙ (rw e (trail-onward (getD row 0 0) (drop 1 row)))
 
--- a number that is read of a row of the table is one of its read's, and below 64
+-- a number that is read of a row of the table is one of its read's, and below the number of vertices
 pub row-number : (rows : List (List ℕ)) (lens : List ℕ) (i k v : ℕ) → RowHolds rows lens i → k < getD lens i 0 → v ≡ getD (getD rows i []) k 0 →
-    (v ≡ getD (rowAt rows lens i) k 0) × (v < maxVertices)
+    (v ≡ getD (rowAt rows lens i) k 0) × (v < roomVertices)
 row-number rows lens i k v r h e =
     let same : v ≡ getD (rowAt rows lens i) k 0 = e ∙ sym (row-get rows lens i k h) in
-    (same, omega (arith, at-all (λ (w : ℕ). w < 64) 0 (rowAt rows lens i) (r .read .below) k (omega (arith, r .long))))
-
--- a read passes an item at most twice for each of its vertices, so reads of up to 64 vertices pass it at most 128 times each
-through-few : (i : Item) (row : List ℕ) → length row ≤ 64 → through i row ≤ 128
-through-few i [] h = omega arith
-through-few i (u ∷ q) h = omega (arith, count-few i (trail (u ∷ q)), ap length (trail-onward u q), length-onward u q)
-
-reads-few : (i : Item) (rs : List (List ℕ)) → All (λ r. length r ≤ 64) rs → readsThrough i rs ≤ 128 * length rs
-reads-few i [] h = omega arith
-reads-few i (r ∷ rs) h = omega (arith, through-few i r (h .0), reads-few i rs (h .1))
+    (same, omega (arith, at-all (λ (w : ℕ). w < rowLength) 0 (rowAt rows lens i) (r .read .below) k (omega (arith, r .long))))
 
 -- Of the table's reads those from row i on are left: with what they add, the counts are those of all.
 pub record ReadsLeft (s : List ℕ) (rs : List (List ℕ)) (vr ar : List ℕ) (i : ℕ) : Type 0 where
-  pub vertices-long : length vr ≡ maxVertices
-  pub arcs-long : length ar ≡ maxArcs
-  pub vertices : (x : ℕ) → x < maxVertices → getD vr x 0 + readsThrough (vert x) (drop i rs) ≡ readsThrough (vert x) rs
+  pub vertices-long : length vr ≡ roomVertices
+  pub arcs-long : length ar ≡ roomArcs
+  pub vertices : (x : ℕ) → x < roomVertices → getD vr x 0 + readsThrough (vert x) (drop i rs) ≡ readsThrough (vert x) rs
   pub arcs : (a : ℕ) → a < arcCount s → getD ar a 0 + readsThrough (arcItem s a) (drop i rs) ≡ readsThrough (arcItem s a) rs
 
 pub reads-begin : {s vr ar : List ℕ} (rs : List (List ℕ)) → CountsLow s vr ar 0 → ReadsLeft s rs vr ar 0
@@ -170,18 +163,18 @@ reads-begin rs low =
     }
 
 module _ {s vr ar : List ℕ} {rows : List (List ℕ)} {lens : List ℕ} {count i : ℕ} (t : TableHolds rows lens count) (left : ReadsLeft s (rowsOf rows lens count) vr ar i) where
-  short : All (λ r. length r ≤ 64) (rowsOf rows lens count)
+  short : All (λ r. length r ≤ rowLength) (rowsOf rows lens count)
   short =
-      all-at (λ (r : List ℕ). length r ≤ 64) [] (rowsOf rows lens count)
+      all-at (λ (r : List ℕ). length r ≤ rowLength) [] (rowsOf rows lens count)
       (λ k h.
       let inside : k < count = omega (arith, table-length rows lens count t) in
       let row = table-row rows lens count t k inside in
       omega (arith, ap length (table-get rows lens count t k inside), row .long, row .fit))
 
-  few : (j : Item) → readsThrough j (rowsOf rows lens count) ≤ 10000
-  few j = omega (arith, reads-few j (rowsOf rows lens count) short, table-length rows lens count t, t .counted)
+  few : (j : Item) → readsThrough j (rowsOf rows lens count) ≤ mostReads
+  few j = omega (arith, reads-few rowLength j (rowsOf rows lens count) short, table-length rows lens count t, t .counted)
 
-  pub reads-low : CountsLow s vr ar 10000
+  pub reads-low : CountsLow s vr ar mostReads
   reads-low =
       record {
         vertices-long = left .vertices-long;
@@ -199,12 +192,12 @@ module _ {s vr ar : List ℕ} {rows : List (List ℕ)} {lens : List ℕ} {count 
         arcs = λ a b. omega (arith, left .arcs a b, g .arcs a b, ap (readsThrough (arcItem s a)) (table-from rows lens count t i h));
       }
 
-  pub reads-end : ArcsRight s → count ≤ i → Counted s (rowsOf rows lens count) vr ar
+  pub reads-end : ArcsRight s → count ≤ i → ReadsCounted s (rowsOf rows lens count) vr ar
   reads-end right h =
       record {
-        vertices = λ x b. omega (arith, left .vertices x (omega (arith, right .header .few-vertices)), ap (readsThrough (vert x)) none);
+        vertices = λ x b. omega (arith, left .vertices x (omega (arith, right .header .vertices-room)), ap (readsThrough (vert x)) none);
         arcs = λ a b. omega (arith, left .arcs a b, ap (readsThrough (arcItem s a)) none);
-        vertices-low = λ x b. reads-low .vertices x (omega (arith, right .header .few-vertices));
+        vertices-low = λ x b. reads-low .vertices x (omega (arith, right .header .vertices-room));
         arcs-low = λ a b. reads-low .arcs a b;
       }
     where
@@ -218,11 +211,11 @@ same-at a (suc n) zero = refl
 same-at a (suc n) (suc k) = same-at a n k
 
 -- counts that are 0 everywhere
-pub counts-none : {s : List ℕ} → CountsLow s (replicate 64 0) (replicate 256 0) 0
+pub counts-none : {s : List ℕ} → CountsLow s (replicate roomVertices 0) (replicate roomArcs 0) 0
 counts-none =
     record {
-      vertices-long = length-replicate {A = ℕ} 64 0;
-      arcs-long = length-replicate {A = ℕ} 256 0;
-      vertices = λ v h. le-of-eq (same-at {A = ℕ} 0 64 v);
-      arcs = λ a h. le-of-eq (same-at {A = ℕ} 0 256 a);
+      vertices-long = length-replicate {A = ℕ} roomVertices 0;
+      arcs-long = length-replicate {A = ℕ} roomArcs 0;
+      vertices = λ v h. le-of-eq (same-at {A = ℕ} 0 roomVertices v);
+      arcs = λ a h. le-of-eq (same-at {A = ℕ} 0 roomArcs a);
     }

@@ -12,15 +12,15 @@ use Rattle.mathematics.specs.Lists.{All}
 use Rattle.mathematics.proofs.Basics.{all-weaken}
 use Rattle.mathematics.proofs.Linked.{linked-rising}
 use Rattle.forms.specs.Bytes.{part}
-use Rattle.forms.specs.GraphForm.{readCount, firstReadAt, readLength, readVertices, readEnd}
+use Rattle.forms.specs.GraphForm.{readCount, firstReadAt, readLength, readVertices, readEnd, readVerticesAt}
 use Rattle.forms.specs.GraphOf.{graphOf, readsFrom, arcsOf}
 use Rattle.forms.specs.GraphReads.{Reads, ReadRight, ReadsRight}
-use Rattle.reads.specs.ReadTable.{rowsOf, used, ReadHolds, Leaves}
-use Rattle.certify.specs.Certify.{TableSized}
+use Rattle.reads.specs.ReadTable.{rowsOf, used, ReadHolds, Leaves, TableSized, tableRows, rowLength}
 use Rattle.forms.proofs.GraphFacts.{all-reads, read-length, graph-well-formed}
 use Rattle.reads.proofs.TableLaws.{rising-climbs}
 use Rattle.reads.proofs.TableRows.{used-set, used-rows}
 use Rattle.reads.proofs.DropLaws.{all-set}
+use Rattle.forms.proofs.LayoutLaws.{read-length-room}
 
 -- one byte more of a row
 pub row-turn : (s row : List ℕ) (at i : ℕ) → take i row ≡ part s at i → i < length row → at + i < length s → take (i + 1) (set row i (getD s (at + i) 0)) ≡ part s at (i + 1)
@@ -43,7 +43,7 @@ reads-hold s r =
     record {
       some = omega (arith, read-length s at x, x .not-short);
       climbs = rising-climbs (readVertices s at) (linked-rising _ (arcsOf s) (graph-well-formed s r .rises) (readVertices s at) (x .arcs));
-      below = all-weaken _ _ (readVertices s at) (λ v h. omega (arith, r .arcs .header .few-vertices)) (x .inside);
+      below = all-weaken _ _ (readVertices s at) (λ v h. omega (arith, r .arcs .header .vertices-room)) (x .inside);
     })
     (readCount s) (firstReadAt s) (r .reads)
 
@@ -53,7 +53,7 @@ pub record Loading (s : List ℕ) (rows : List (List ℕ)) (lens : List ℕ) (co
   pub few : i ≤ count
   pub counted : count ≡ readCount s
   pub sized : TableSized rows lens
-  pub fit : (k : ℕ) → k < i → getD lens k 0 ≤ 64
+  pub fit : (k : ℕ) → k < i → getD lens k 0 ≤ rowLength
   pub right : ReadsRight s (count - i) at
   pub same : rowsOf rows lens i ++ readsFrom s (count - i) at ≡ graphOf s .reads
 
@@ -78,18 +78,18 @@ module _ {s : List ℕ} {rows : List (List ℕ)} {lens : List ℕ} {count at i :
   pub load-next : i < count → ReadRight s at
   load-next h = (rw (load-left h) at (l .right)) .0
 
-  module _ (len : ℕ) (row : List ℕ) (h : i < count) (e : len ≡ readLength s at) {from next : ℕ} (begins : from ≡ at + 1) (ends : next ≡ readEnd s at) (same : take len row ≡ part s from len) (long : length row ≡ 64) where
-    room : i < 16
-    room = omega (arith, l .counted, l .reads .arcs .header .few-reads)
+  module _ (len : ℕ) (row : List ℕ) (h : i < count) (e : len ≡ readLength s at) {from next : ℕ} (begins : from ≡ readVerticesAt s at) (ends : next ≡ readEnd s at) (same : take len row ≡ part s from len) (long : length row ≡ rowLength) where
+    room : i < tableRows
+    room = omega (arith, l .counted, l .reads .arcs .header .reads-room)
 
-    fits : (k : ℕ) → k < i + 1 → getD (set lens i len) k 0 ≤ 64
+    fits : (k : ℕ) → k < i + 1 → getD (set lens i len) k 0 ≤ rowLength
     fits k b = go (decLt k i)
       where
-        go : Dec (k < i) → getD (set lens i len) k 0 ≤ 64
+        go : Dec (k < i) → getD (set lens i len) k 0 ≤ rowLength
         go (yes m) = omega (arith, l .fit k m, getD-set-other lens i k len 0 (λ q. omega arith))
         go (no m) =
             let q : k ≡ i = omega arith in
-            rw (q, getD-set-same lens i len 0 (omega (arith, l .sized .sized, room))) (omega (arith, load-next h .not-long))
+            rw (q, getD-set-same lens i len 0 (omega (arith, l .sized .sized, room))) (omega (arith, load-next h .not-long, read-length-room s))
 
     front : rowsOf (set rows i row) (set lens i len) (i + 1) ≡ rowsOf rows lens i ++ (take len row ∷ [])
     unfolding rowsOf
@@ -106,7 +106,7 @@ module _ {s : List ℕ} {rows : List (List ℕ)} {lens : List ℕ} {count at i :
           counted = l .counted;
           sized = record {
             tall = simp length-set (l .sized .tall);
-            wide = all-set (λ (r : List ℕ). length r ≡ 64) rows i row (l .sized .wide) long;
+            wide = all-set (λ (r : List ℕ). length r ≡ rowLength) rows i row (l .sized .wide) long;
             sized = simp length-set (l .sized .sized);
           };
           fit = fits;
@@ -120,7 +120,7 @@ module _ {s : List ℕ} {rows : List (List ℕ)} {lens : List ℕ} {count at i :
   load-end h =
       record {
         table = record {
-          counted = omega (arith, l .counted, l .reads .arcs .header .few-reads);
+          counted = omega (arith, l .counted, l .reads .arcs .header .reads-room);
           tall = l .sized .tall;
           wide = l .sized .wide;
           sized = l .sized .sized;

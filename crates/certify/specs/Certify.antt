@@ -7,15 +7,15 @@ use lib.Dec.{leb}
 use lib.ListN.{length, getD}
 use lib.IntN.{natAbs}
 use Rattle.mathematics.specs.Price.{whole}
-use Rattle.mathematics.specs.Lists.{All}
 use Rattle.mathematics.specs.Cover.{vert, arc, sameItem, oneIf}
 use Rattle.mathematics.specs.Bound.{readsThrough, vertexSlack, arcSlack, vertexSlacksHold, arcSlackHolds}
-use Rattle.forms.specs.Limits.{maxVertices, maxArcs}
+use Rattle.forms.specs.Limits.{maxCost, maxDemand, markLimit, roomVertices, roomArcs}
+use Rattle.reads.specs.ReadTable.{tableRows, rowLength}
 use Rattle.forms.specs.GraphForm.{vertexCount, arcCount, readCount, vertexDemand, arcAt, arcDemand}
 use Rattle.forms.specs.GraphOf.{vertexOf, arcOf, graphOf, arcItem}
 use Rattle.forms.specs.declared.Verdict.{Verdict}
 use Rattle.forms.specs.GraphFaults.{then, firstFault}
-use Rattle.forms.specs.AnswerForm.{inMarkAt, outMarkAt, firstPathAt, marksOf}
+use Rattle.forms.specs.AnswerForm.{inMarkAt, outMarkAt, firstPathAt, answerMarks}
 use Rattle.forms.specs.AnswerFaults.{markFault}
 
 -- "Item" counts vertices, then arcs, then reads, from 0: the item of arc a, and of read r
@@ -37,10 +37,10 @@ readUnmet met r = cond (getD met r false) 0 19
 
 -- 21: the slacks of vertex v and of arc a
 unfoldable pub vertexSlackFault : List ℕ → List ℕ → ℕ → ℕ
-vertexSlackFault s t v = cond (vertexSlacksHold whole (graphOf s) (marksOf t) v (vertexOf s v)) 0 21
+vertexSlackFault s t v = cond (vertexSlacksHold whole (graphOf s) (answerMarks s t) v (vertexOf s v)) 0 21
 
 unfoldable pub arcSlackFault : List ℕ → List ℕ → ℕ → ℕ
-arcSlackFault s t a = cond (arcSlackHolds whole (marksOf t) (arcOf s a)) 0 21
+arcSlackFault s t a = cond (arcSlackHolds whole (answerMarks s t) (arcOf s a)) 0 21
 
 -- all of 19: vertices, then arcs, then reads
 unfoldable pub unmetVerdict : List ℕ → List ℕ → List ℕ → List Bool → Verdict
@@ -53,60 +53,66 @@ unfoldable pub slacksVerdict : List ℕ → List ℕ → Verdict
 slacksVerdict s t =
     then (firstFault (vertexSlackFault s t) (λ v. v) (vertexCount s) 0) (firstFault (arcSlackFault s t) (arcPlace s) (arcCount s) 0)
 
--- the marks of n vertices stand in the answer and are in range
-pub record MarksStand (n : ℕ) (t : List ℕ) : Type 0 where
-  pub long : firstPathAt n ≤ length t
-  pub into : (v : ℕ) → v < n → markFault t (inMarkAt v) ≡ 0
-  pub out : (v : ℕ) → v < n → markFault t (outMarkAt v) ≡ 0
+-- the marks of the graph's vertices stand in the answer and are in range
+pub record MarksStand (s t : List ℕ) : Type 0 where
+  pub long : firstPathAt s ≤ length t
+  pub into : (v : ℕ) → v < vertexCount s → markFault t (inMarkAt s v) ≡ 0
+  pub out : (v : ℕ) → v < vertexCount s → markFault t (outMarkAt s v) ≡ 0
 
 -- no slack of a vertex or of an arc is below 0
 pub record NoneBelow (s t : List ℕ) : Type 0 where
   pub vertices : (v : ℕ) → v < vertexCount s → vertexSlackFault s t v ≡ 0
   pub arcs : (a : ℕ) → a < arcCount s → arcSlackFault s t a ≡ 0
 
+-- No more reads of a table can be counted at an item: a read passes it at most as often as its items go, of which it has fewer than twice its numbers.
+abbrev pub mostReads : ℕ
+mostReads = 2 * rowLength * tableRows
+
+-- no slack is more, with marks in range
+abbrev pub mostSlack : ℕ
+mostSlack = 2 * markLimit + maxCost
+
+-- and no part of the bound
+abbrev pub mostPart : ℕ
+mostPart = maxDemand * mostSlack
+
 -- how many of the reads rs pass each vertex and each arc of the form
-pub record Counted (s : List ℕ) (rs : List (List ℕ)) (vertexReads arcReads : List ℕ) : Type 0 where
+pub record ReadsCounted (s : List ℕ) (rs : List (List ℕ)) (vertexReads arcReads : List ℕ) : Type 0 where
   pub vertices : (v : ℕ) → v < vertexCount s → getD vertexReads v 0 ≡ readsThrough (vert v) rs
   pub arcs : (a : ℕ) → a < arcCount s → getD arcReads a 0 ≡ readsThrough (arcItem s a) rs
-  pub vertices-low : (v : ℕ) → v < vertexCount s → getD vertexReads v 0 ≤ 10000
-  pub arcs-low : (a : ℕ) → a < arcCount s → getD arcReads a 0 ≤ 10000
+  pub vertices-low : (v : ℕ) → v < vertexCount s → getD vertexReads v 0 ≤ mostReads
+  pub arcs-low : (a : ℕ) → a < arcCount s → getD arcReads a 0 ≤ mostReads
 
 -- 22: what vertex v and arc a add to the bound, whose slacks are not below 0: its rest and the prepared reads through it, times its slack
 unfoldable pub vertexPart : List ℕ → List ℕ → ℕ → ℕ → ℕ
-vertexPart s t v reads = (vertexDemand s v - reads + reads) * natAbs (vertexSlack whole (marksOf t) v)
+vertexPart s t v reads = (vertexDemand s v - reads + reads) * natAbs (vertexSlack whole (answerMarks s t) v)
 
 unfoldable pub arcPart : List ℕ → List ℕ → ℕ → ℕ → ℕ
-arcPart s t a reads = (arcDemand s (arcAt s a) - reads + reads) * natAbs (arcSlack whole (marksOf t) (arcOf s a))
+arcPart s t a reads = (arcDemand s (arcAt s a) - reads + reads) * natAbs (arcSlack whole (answerMarks s t) (arcOf s a))
 
 -- f at first, first + 1, .., count of them, in total
 unfoldable pub sumFrom : (ℕ → ℕ) → ℕ → ℕ → ℕ
 sumFrom f zero first = 0
 sumFrom f (suc count) first = f first + sumFrom f count (suc first)
 
--- a table of reads, whatever is in it: 16 rows of 64, and 16 lengths
-pub record TableSized (rows : List (List ℕ)) (lens : List ℕ) : Type 0 where
-  pub tall : length rows ≡ 16
-  pub wide : All (λ r. length r ≡ 64) rows
-  pub sized : length lens ≡ 16
-
 -- no count is above a number, so that counting on does not run over
 pub record CountsLow (s vertexReads arcReads : List ℕ) (most : ℕ) : Type 0 where
-  pub vertices-long : length vertexReads ≡ maxVertices
-  pub arcs-long : length arcReads ≡ maxArcs
-  pub vertices : (v : ℕ) → v < maxVertices → getD vertexReads v 0 ≤ most
+  pub vertices-long : length vertexReads ≡ roomVertices
+  pub arcs-long : length arcReads ≡ roomArcs
+  pub vertices : (v : ℕ) → v < roomVertices → getD vertexReads v 0 ≤ most
   pub arcs : (a : ℕ) → a < arcCount s → getD arcReads a 0 ≤ most
 
 -- the arc from u to v, where there is one, is counted once more
 pub record ArcPassed (s : List ℕ) (u v : ℕ) (before after : List ℕ) : Type 0 where
-  pub long : length after ≡ maxArcs
+  pub long : length after ≡ roomArcs
   pub each : (a : ℕ) → a < arcCount s → getD after a 0 ≡ getD before a 0 + oneIf (sameItem (arcItem s a) (arc u v))
 
--- a part of the bound, and that it is no more than 1,000,000 times 4,001,000,000
+-- a part of the bound
 pub record Part (expected r : ℕ) : Type 0 where
   pub is : r ≡ expected
-  pub low : r ≤ 4_001_000_000_000_000
+  pub low : r ≤ mostPart
 
 -- a sum of that many parts
 pub record Sum (expected parts r : ℕ) : Type 0 where
   pub is : r ≡ expected
-  pub low : r ≤ 4_001_000_000_000_000 * parts
+  pub low : r ≤ mostPart * parts

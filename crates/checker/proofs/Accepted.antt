@@ -18,14 +18,15 @@ use Rattle.mathematics.specs.Cover.{Ask, Weighted, asks, total, paths, price}
 use Rattle.mathematics.specs.Bound.{Marks, VertexSlacksHold, vertexSlacksHold, arcSlackHolds, bound}
 use Rattle.mathematics.proofs.Basics.{is-true}
 use Rattle.forms.specs.declared.Verdict.{Verdict}
-use Rattle.forms.specs.Limits.{maxPaths, maxWeight, markLimit, maxPathLength}
+use Rattle.forms.specs.AnswerFaults.{answerHeaderVerdict, markFault, marksVerdict, listBefore, pathFault, pathsVerdict}
+use Rattle.forms.specs.AnswerForm.{answerLengthWord, answerVersionAt, answerVersion, pathCountAt, pathCount, statedPrice, markPartLength, inMarkAt, signed32, answerMarks, firstPathAt, pathVerticesAt, pathWeight, pathLength, pathVertices, pathEnd, coverOf, markParts}
+use Rattle.forms.specs.GraphFaults.{refusal, nothingRefused, orElse, allBelow, graphVerdict}
 use Rattle.forms.specs.GraphForm.{vertexCount}
 use Rattle.forms.specs.GraphOf.{graphOf}
-use Rattle.forms.specs.GraphFaults.{refusal, nothingRefused, orElse, allBelow, graphVerdict}
-use Rattle.forms.specs.AnswerForm.{answerLengthWord, answerVersion, pathCount, statedPrice, markLength, inMarkAt, signed32, marksOf, firstPathAt, pathHeaderLength, pathWeight, pathLength, pathVertices, pathEnd, coverOf}
-use Rattle.forms.specs.AnswerFaults.{answerHeaderVerdict, markFault, marksVerdict, listBefore, pathFault, pathsVerdict}
+use Rattle.forms.specs.Layout.{maxPaths, maxWeight, answerVersionOf, maxPathLength}
+use Rattle.forms.specs.Limits.{markLimit}
 use Rattle.checker.specs.Check.{samePrice, demandsVerdict, readsMetVerdict, vertexSlacksVerdict, arcSlacksVerdict, certificateVerdict, answerVerdict, checkVerdict}
-use Rattle.checker.specs.Accepted.{HeaderRight, MarkRight, MarksRight, PathRight, PathsRight, Certified, Accepted}
+use Rattle.checker.specs.Accepted.{AnswerHeaderRight, MarkRight, MarksRight, PathRight, PathsRight, Certified, Accepted}
 
 -- a test that refuses with a number that is not 0, and what comes after it
 refused : (b : Bool) (k at : ℕ) (after : Verdict) → cond b (refusal (suc k) at) after .number ≡ 0 → T (not b) × (after .number ≡ 0)
@@ -69,7 +70,7 @@ earlier-first g a e = at (eqb (g .number) 0) refl e
     at false p e = absurd (eqb-false _ _ p e)
 
 -- 11, 12, 13
-header-tests : (a b c d : Bool) (after : Verdict) → cond (a || not b) (refusal 11 0) (cond (not c) (refusal 12 4) (cond d (refusal 13 5) after)) .number ≡ 0 →
+header-tests : (a b c d : Bool) (after : Verdict) → cond (a || not b) (refusal 11 0) (cond (not c) (refusal 12 answerVersionAt) (cond d (refusal 13 pathCountAt) after)) .number ≡ 0 →
     T (not a) × T b × T c × T (not d) × (after .number ≡ 0)
 header-tests true b c d after e = absurd (omega arith)
 header-tests false false c d after e = absurd (omega arith)
@@ -77,12 +78,12 @@ header-tests false true false d after e = absurd (omega arith)
 header-tests false true true true after e = absurd (omega arith)
 header-tests false true true false after e = (tt, tt, tt, tt, e)
 
-pub header-read : (s t : List ℕ) (after : Verdict) → answerHeaderVerdict s t after .number ≡ 0 → HeaderRight s t × (after .number ≡ 0)
+pub header-read : (s t : List ℕ) (after : Verdict) → answerHeaderVerdict s t after .number ≡ 0 → AnswerHeaderRight s t × (after .number ≡ 0)
 unfolding answerHeaderVerdict
 header-read s t after e =
     let h =
-    header-tests (ltb (length t) (firstPathAt (vertexCount s))) (eqb (answerLengthWord t) (length t)) (eqb (answerVersion t) 1)
-    (ltb maxPaths (pathCount t)) after e in (
+    header-tests (ltb (length t) (firstPathAt s)) (eqb (answerLengthWord t) (length t)) (eqb (answerVersion t) (answerVersionOf s))
+    (ltb (maxPaths s) (pathCount t)) after e in (
       record {
         long = nltb→le _ _ (h .0);
         length-stated = eqb→eq _ _ (h .1);
@@ -92,7 +93,7 @@ header-read s t after e =
       h .4,
     )
 
-header-passed : (s t : List ℕ) (after : Verdict) → HeaderRight s t → answerHeaderVerdict s t after ≡ after
+header-passed : (s t : List ℕ) (after : Verdict) → AnswerHeaderRight s t → answerHeaderVerdict s t after ≡ after
 unfolding answerHeaderVerdict
 header-passed s t after h =
     simp (le-ltb _ _ (h .long), eq-eqb _ _ (h .length-stated), eq-eqb _ _ (h .version-known), le-ltb _ _ (h .few-paths))
@@ -112,14 +113,14 @@ marks-read : (t : List ℕ) (count at : ℕ) (after : Verdict) → marksVerdict 
 unfolding marksVerdict markFault
 marks-read t zero at after e = (tt, e)
 marks-read t (suc count) at after e =
-    let h = fault-refused (markFault t at) at (marksVerdict t count (at + markLength) after) e in
-    let more = marks-read t count (at + markLength) after (h .1) in
+    let h = fault-refused (markFault t at) at (marksVerdict t count (at + markPartLength) after) e in
+    let more = marks-read t count (at + markPartLength) after (h .1) in
     ((mark-tests (leZ (negℤ (pos markLimit)) (signed32 t at)) (leZ (signed32 t at) (pos markLimit)) (h .0), more .0), more .1)
 
 marks-passed : (t : List ℕ) (count at : ℕ) (after : Verdict) → MarksRight t count at → marksVerdict t count at after ≡ after
 unfolding marksVerdict
 marks-passed t zero at after h = refl
-marks-passed t (suc count) at after h = fault-passed _ at _ (mark-passed t at (h .0)) ∙ marks-passed t count (at + markLength) after (h .1)
+marks-passed t (suc count) at after h = fault-passed _ at _ (mark-passed t at (h .0)) ∙ marks-passed t count (at + markPartLength) after (h .1)
 
 -- 15 to 18
 path-tests : (a b c d e f g h i : Bool) →
@@ -140,9 +141,9 @@ path-read : (s t : List ℕ) (at : ℕ) (before : List ℕ) (copies : ℕ) → p
 unfolding pathFault
 path-read s t at before copies e =
     let h =
-    path-tests (ltb (length t) (at + pathHeaderLength)) (eqb (pathLength t at) 0) (ltb maxPathLength (pathLength t at)) (ltb (length t) (pathEnd t at))
-    (eqb (pathWeight t at) 0) (ltb maxWeight (copies + pathWeight t at)) (allBelow (vertexCount s) (pathVertices t at))
-    (isPath (graphOf s) (pathVertices t at)) (listBefore before (pathVertices t at)) e in
+    path-tests (ltb (length t) (pathVerticesAt s at)) (eqb (pathLength s t at) 0) (ltb (maxPathLength s) (pathLength s t at)) (ltb (length t) (pathEnd s t at))
+    (eqb (pathWeight t at) 0) (ltb (maxWeight s) (copies + pathWeight t at)) (allBelow (vertexCount s) (pathVertices s t at))
+    (isPath (graphOf s) (pathVertices s t at)) (listBefore before (pathVertices s t at)) e in
     record {
       some-vertex = not-zero _ (h .0);
       few-vertices = nltb→le _ _ (h .1);
@@ -157,8 +158,8 @@ path-read s t at before copies e =
 path-passed : (s t : List ℕ) (at : ℕ) (before : List ℕ) (copies : ℕ) → PathRight s t at before copies → pathFault s t at before copies ≡ 0
 unfolding pathFault
 path-passed s t at before copies h =
-    let header : at + pathHeaderLength ≤ length t = omega (arith, h .within) in
-    let length-not-0 : (pathLength t at ≡ 0 → ⊥) = λ e. omega (arith, h .some-vertex) in
+    let header : pathVerticesAt s at ≤ length t = omega (arith, h .within) in
+    let length-not-0 : (pathLength s t at ≡ 0 → ⊥) = λ e. omega (arith, h .some-vertex) in
     let weight-not-0 : (pathWeight t at ≡ 0 → ⊥) = λ e. omega (arith, h .some-copy) in
     simp (
       le-ltb _ _ header,
@@ -167,9 +168,9 @@ path-passed s t at before copies h =
       le-ltb _ _ (h .within),
       ne-eqb _ _ weight-not-0,
       le-ltb _ _ (h .few-copies),
-      is-true (allBelow (vertexCount s) (pathVertices t at)) (h .vertices-known),
-      is-true (isPath (graphOf s) (pathVertices t at)) (h .is-path),
-      is-true (listBefore before (pathVertices t at)) (h .ascends),
+      is-true (allBelow (vertexCount s) (pathVertices s t at)) (h .vertices-known),
+      is-true (isPath (graphOf s) (pathVertices s t at)) (h .is-path),
+      is-true (listBefore before (pathVertices s t at)) (h .ascends),
     )
 
 paths-read : (s t : List ℕ) (count at : ℕ) (before : List ℕ) (copies : ℕ) (after : Verdict) → pathsVerdict s t count at before copies after .number ≡ 0 →
@@ -178,8 +179,8 @@ unfolding pathsVerdict
 paths-read s t zero at before copies after e = let h = refused (ltb at (length t)) 14 at after e in (nltb→le _ _ (h .0), h .1)
 paths-read s t (suc count) at before copies after e =
     let h =
-    fault-refused (pathFault s t at before copies) at (pathsVerdict s t count (pathEnd t at) (pathVertices t at) (copies + pathWeight t at) after) e in
-    let more = paths-read s t count (pathEnd t at) (pathVertices t at) (copies + pathWeight t at) after (h .1) in
+    fault-refused (pathFault s t at before copies) at (pathsVerdict s t count (pathEnd s t at) (pathVertices s t at) (copies + pathWeight t at) after) e in
+    let more = paths-read s t count (pathEnd s t at) (pathVertices s t at) (copies + pathWeight t at) after (h .1) in
     ((path-read s t at before copies (h .0), more .0), more .1)
 
 paths-passed : (s t : List ℕ) (count at : ℕ) (before : List ℕ) (copies : ℕ) (after : Verdict) → PathsRight s t count at before copies →
@@ -187,9 +188,9 @@ paths-passed : (s t : List ℕ) (count at : ℕ) (before : List ℕ) (copies : �
 unfolding pathsVerdict
 paths-passed s t zero at before copies after h = simp (le-ltb _ _ h)
 paths-passed s t (suc count) at before copies after h =
-    fault-passed (pathFault s t at before copies) at (pathsVerdict s t count (pathEnd t at) (pathVertices t at) (copies + pathWeight t at) after)
+    fault-passed (pathFault s t at before copies) at (pathsVerdict s t count (pathEnd s t at) (pathVertices s t at) (copies + pathWeight t at) after)
     (path-passed s t at before copies (h .0)) ∙
-    paths-passed s t count (pathEnd t at) (pathVertices t at) (copies + pathWeight t at) after (h .1)
+    paths-passed s t count (pathEnd s t at) (pathVertices s t at) (copies + pathWeight t at) after (h .1)
 
 -- 19
 demands-read : (W : List Weighted) (k : ℕ) (more : List Ask) (after : Verdict) → demandsVerdict W k more after .number ≡ 0 →
@@ -297,28 +298,28 @@ module _ (P : Prices) where
 answer-read : (s t : List ℕ) → graphVerdict s .number ≡ 0 → answerVerdict s t .number ≡ 0 → Accepted s t
 unfolding answerVerdict
 answer-read s t reads e =
-    let last = certificateVerdict whole (graphOf s) (coverOf (vertexCount s) t) (pos (statedPrice t)) (marksOf t) in
-    let walked = pathsVerdict s t (pathCount t) (firstPathAt (vertexCount s)) [] 0 last in
-    let h = header-read s t (marksVerdict t (2 * vertexCount s) (inMarkAt 0) walked) e in
-    let m = marks-read t (2 * vertexCount s) (inMarkAt 0) walked (h .1) in
-    let p = paths-read s t (pathCount t) (firstPathAt (vertexCount s)) [] 0 last (m .1) in
+    let last = certificateVerdict whole (graphOf s) (coverOf s t) (pos (statedPrice s t)) (answerMarks s t) in
+    let walked = pathsVerdict s t (pathCount t) (firstPathAt s) [] 0 last in
+    let h = header-read s t (marksVerdict t (markParts s) (inMarkAt s 0) walked) e in
+    let m = marks-read t (markParts s) (inMarkAt s 0) walked (h .1) in
+    let p = paths-read s t (pathCount t) (firstPathAt s) [] 0 last (m .1) in
     record {
       graph-reads = reads;
       header = h .0;
       marks = m .0;
       paths = p .0;
-      certificate = certificate-read whole (graphOf s) (coverOf (vertexCount s) t) (pos (statedPrice t)) (marksOf t) (p .1);
+      certificate = certificate-read whole (graphOf s) (coverOf s t) (pos (statedPrice s t)) (answerMarks s t) (p .1);
     }
 
 answer-passed : (s t : List ℕ) → Accepted s t → answerVerdict s t ≡ nothingRefused
 unfolding answerVerdict
 answer-passed s t h =
-    let last = certificateVerdict whole (graphOf s) (coverOf (vertexCount s) t) (pos (statedPrice t)) (marksOf t) in
-    let walked = pathsVerdict s t (pathCount t) (firstPathAt (vertexCount s)) [] 0 last in
-    header-passed s t (marksVerdict t (2 * vertexCount s) (inMarkAt 0) walked) (h .header) ∙
-    (marks-passed t (2 * vertexCount s) (inMarkAt 0) walked (h .marks) ∙
-    (paths-passed s t (pathCount t) (firstPathAt (vertexCount s)) [] 0 last (h .paths) ∙
-    certificate-passed whole (graphOf s) (coverOf (vertexCount s) t) (pos (statedPrice t)) (marksOf t) (h .certificate)))
+    let last = certificateVerdict whole (graphOf s) (coverOf s t) (pos (statedPrice s t)) (answerMarks s t) in
+    let walked = pathsVerdict s t (pathCount t) (firstPathAt s) [] 0 last in
+    header-passed s t (marksVerdict t (markParts s) (inMarkAt s 0) walked) (h .header) ∙
+    (marks-passed t (markParts s) (inMarkAt s 0) walked (h .marks) ∙
+    (paths-passed s t (pathCount t) (firstPathAt s) [] 0 last (h .paths) ∙
+    certificate-passed whole (graphOf s) (coverOf s t) (pos (statedPrice s t)) (answerMarks s t) (h .certificate)))
 
 -- what a verdict of 0 on graph and answer says, test by test
 pub number-zero-accepted : (s t : List ℕ) → checkVerdict s t .number ≡ 0 → Accepted s t

@@ -10,69 +10,73 @@ use lib.Dec.{ltb, eqb}
 use lib.ListN.{length}
 use borrow.Author.Tests.{lt-ltb, le-ltb, eq-eqb, ne-eqb}
 use Rattle.forms.specs.declared.Verdict.{Verdict}
-use Rattle.forms.specs.Bytes.{byte, part}
-use Rattle.forms.specs.Limits.{maxPaths}
-use Rattle.forms.specs.GraphForm.{vertexCount}
-use Rattle.forms.specs.GraphFaults.{refusal, nothingRefused, orElse, then}
-use Rattle.forms.specs.AnswerForm.{answerLengthWord, answerVersion, pathCount, firstPathAt, pathWeight, pathVertices, pathEnd}
 use Rattle.forms.specs.AnswerFaults.{answerHeaderVerdict, markFault, marksVerdict, listBefore, pathFault, pathsVerdict}
+use Rattle.forms.specs.AnswerForm.{answerLengthWord, answerVersionAt, answerVersion, pathCountAt, pathCount, priceAt, markPartLength, inMarkAt, markParts, firstPathAt, pathWeight, pathVertices, pathEnd}
+use Rattle.forms.specs.Bytes.{byte, part}
+use Rattle.forms.specs.GraphFaults.{refusal, nothingRefused, orElse, then}
+use Rattle.forms.specs.Layout.{maxPaths, answerVersionOf}
+use Rattle.forms.proofs.LayoutLaws.{price-inside, header-inside, mark-first, marks-end}
 use Rattle.forms.proofs.PartLaws.{part-cons, part-none}
 
 module _ (s t : List ℕ) where
-  pub header-short : length t < firstPathAt (vertexCount s) → refusal 11 0 ≡ answerHeaderVerdict s t nothingRefused
+  pub header-short : length t < firstPathAt s → refusal 11 0 ≡ answerHeaderVerdict s t nothingRefused
   unfolding answerHeaderVerdict
   header-short h = simp (lt-ltb _ _ h)
 
-  module _ (long : firstPathAt (vertexCount s) ≤ length t) where
+  module _ (long : firstPathAt s ≤ length t) where
     pub header-word : (answerLengthWord t ≡ length t → ⊥) → refusal 11 0 ≡ answerHeaderVerdict s t nothingRefused
     unfolding answerHeaderVerdict
     header-word h = simp (le-ltb _ _ long, ne-eqb _ _ h)
 
     module _ (word : answerLengthWord t ≡ length t) where
-      pub header-version : (answerVersion t ≡ 1 → ⊥) → refusal 12 4 ≡ answerHeaderVerdict s t nothingRefused
+      pub header-version : (answerVersion t ≡ answerVersionOf s → ⊥) → refusal 12 answerVersionAt ≡ answerHeaderVerdict s t nothingRefused
       unfolding answerHeaderVerdict
       header-version h = simp (le-ltb _ _ long, eq-eqb _ _ word, ne-eqb _ _ h)
 
-      module _ (one : answerVersion t ≡ 1) where
-        pub header-paths : maxPaths < pathCount t → refusal 13 5 ≡ answerHeaderVerdict s t nothingRefused
+      module _ (known : answerVersion t ≡ answerVersionOf s) where
+        pub header-paths : maxPaths s < pathCount t → refusal 13 pathCountAt ≡ answerHeaderVerdict s t nothingRefused
         unfolding answerHeaderVerdict
-        header-paths h = simp (le-ltb _ _ long, eq-eqb _ _ word, eq-eqb _ _ one, lt-ltb _ _ h)
+        header-paths h = simp (le-ltb _ _ long, eq-eqb _ _ word, eq-eqb _ _ known, lt-ltb _ _ h)
 
-        pub header-right : pathCount t ≤ maxPaths → nothingRefused ≡ answerHeaderVerdict s t nothingRefused
+        pub header-right : pathCount t ≤ maxPaths s → nothingRefused ≡ answerHeaderVerdict s t nothingRefused
         unfolding answerHeaderVerdict
-        header-right h = simp (le-ltb _ _ long, eq-eqb _ _ word, eq-eqb _ _ one, le-ltb _ _ h)
+        header-right h = simp (le-ltb _ _ long, eq-eqb _ _ word, eq-eqb _ _ known, le-ltb _ _ h)
 
-marks-split : (t : List ℕ) (n at : ℕ) → 0 < n → marksVerdict t n at nothingRefused ≡ orElse (markFault t at) at (marksVerdict t (n - 1) (at + 4) nothingRefused)
+-- an answer that has the marks has the number of paths
+pub count-stands : (s : List ℕ) (size : ℕ) → firstPathAt s ≤ size → priceAt ≤ size
+count-stands s size h = omega (arith, price-inside s size (header-inside s size h))
+
+marks-split : (t : List ℕ) (n at : ℕ) → 0 < n → marksVerdict t n at nothingRefused ≡ orElse (markFault t at) at (marksVerdict t (n - 1) (at + markPartLength) nothingRefused)
 unfolding marksVerdict
 marks-split t zero at h = absurd (omega arith)
 marks-split t (suc n) at h =
     let same : suc n - 1 ≡ n = omega arith in
     rw same
 
--- of the marks of n vertices those from at on are left, and they decide
-pub record MarksLeft (t : List ℕ) (n left at : ℕ) : Type 0 where
-  pub place : at + 4 * left ≡ 15 + 8 * n
-  pub decide : marksVerdict t (2 * n) 15 nothingRefused ≡ marksVerdict t left at nothingRefused
+-- of the numbers that make the marks those from at on are left, and they decide
+pub record MarksLeft (s t : List ℕ) (left at : ℕ) : Type 0 where
+  pub place : at + markPartLength * left ≡ firstPathAt s
+  pub decide : marksVerdict t (markParts s) (inMarkAt s 0) nothingRefused ≡ marksVerdict t left at nothingRefused
 
-pub marks-begin : (t : List ℕ) (n : ℕ) {at : ℕ} → at ≡ 15 → MarksLeft t n (2 * n) at
-marks-begin t n e = record { place = omega arith; decide = rw e }
+pub marks-begin : (s t : List ℕ) {left at : ℕ} → left ≡ markParts s → at ≡ inMarkAt s 0 → MarksLeft s t left at
+marks-begin s t e f = record { place = omega (arith, mark-first s, marks-end s); decide = rw (e, f) }
 
 -- a mark in range, a mark out of range, none left
-module _ {t : List ℕ} {n left at : ℕ} (inv : MarksLeft t n left at) where
-  pub marks-turn : {next : ℕ} → 0 < left → markFault t at ≡ 0 → next ≡ at + 4 → MarksLeft t n (left - 1) next
+module _ {s t : List ℕ} {left at : ℕ} (inv : MarksLeft s t left at) where
+  pub marks-turn : {next : ℕ} → 0 < left → markFault t at ≡ 0 → next ≡ at + markPartLength → MarksLeft s t (left - 1) next
   marks-turn some e ends =
       record {
-        place = omega arith;
+        place = omega (arith, inv .place);
         decide = inv .decide ∙ marks-split t left at some ∙ simp (eq-eqb _ _ e, ends);
       }
 
-  pub marks-stop : (fault : ℕ) → 0 < left → fault ≡ markFault t at → (fault ≡ 0 → ⊥) → refusal fault at ≡ marksVerdict t (2 * n) 15 nothingRefused
+  pub marks-stop : (fault : ℕ) → 0 < left → fault ≡ markFault t at → (fault ≡ 0 → ⊥) → refusal fault at ≡ marksVerdict t (markParts s) (inMarkAt s 0) nothingRefused
   marks-stop fault some e wrong =
       rw e (sym (inv .decide ∙ marks-split t left at some ∙ simp (ne-eqb (markFault t at) 0 (λ z. wrong (e ∙ z)))))
 
-  pub marks-end : left ≤ 0 → nothingRefused ≡ marksVerdict t (2 * n) 15 nothingRefused
+  pub marks-over : left ≤ 0 → nothingRefused ≡ marksVerdict t (markParts s) (inMarkAt s 0) nothingRefused
   unfolding marksVerdict
-  marks-end h =
+  marks-over h =
       let none : left ≡ 0 = omega arith in
       sym (inv .decide ∙ rw none)
 
@@ -141,10 +145,10 @@ or-else-then fault at x after = go (eqb fault 0) refl
 pub header-then : (s t : List ℕ) (after : Verdict) → answerHeaderVerdict s t after ≡ then (answerHeaderVerdict s t nothingRefused) after
 unfolding answerHeaderVerdict then
 header-then s t after =
-    go (ltb (length t) (firstPathAt (vertexCount s)) || not (eqb (answerLengthWord t) (length t))) (not (eqb (answerVersion t) 1))
-    (ltb maxPaths (pathCount t))
+    go (ltb (length t) (firstPathAt s) || not (eqb (answerLengthWord t) (length t))) (not (eqb (answerVersion t) (answerVersionOf s)))
+    (ltb (maxPaths s) (pathCount t))
   where
-    go : (b₁ b₂ b₃ : Bool) → cond b₁ (refusal 11 0) (cond b₂ (refusal 12 4) (cond b₃ (refusal 13 5) after)) ≡ then (cond b₁ (refusal 11 0) (cond b₂ (refusal 12 4) (cond b₃ (refusal 13 5) nothingRefused))) after
+    go : (b₁ b₂ b₃ : Bool) → cond b₁ (refusal 11 0) (cond b₂ (refusal 12 answerVersionAt) (cond b₃ (refusal 13 pathCountAt) after)) ≡ then (cond b₁ (refusal 11 0) (cond b₂ (refusal 12 answerVersionAt) (cond b₃ (refusal 13 pathCountAt) nothingRefused))) after
     go true b₂ b₃ = refl
     go false true b₃ = refl
     go false false true = refl
@@ -154,7 +158,7 @@ pub marks-then : (t : List ℕ) (count at : ℕ) (after : Verdict) → marksVerd
 unfolding marksVerdict then
 marks-then t zero at after = refl
 marks-then t (suc count) at after =
-    ap (orElse (markFault t at) at) (marks-then t count (at + 4) after) ∙ or-else-then (markFault t at) at _ after
+    ap (orElse (markFault t at) at) (marks-then t count (at + markPartLength) after) ∙ or-else-then (markFault t at) at _ after
 
 pub paths-then : (s t : List ℕ) (count at : ℕ) (before : List ℕ) (copies : ℕ) (after : Verdict) → pathsVerdict s t count at before copies after ≡ then (pathsVerdict s t count at before copies nothingRefused) after
 unfolding pathsVerdict then
@@ -165,5 +169,5 @@ paths-then s t zero at before copies after = go (ltb at (length t))
     go false = refl
 paths-then s t (suc count) at before copies after =
     ap (orElse (pathFault s t at before copies) at)
-    (paths-then s t count (pathEnd t at) (pathVertices t at) (copies + pathWeight t at) after)
+    (paths-then s t count (pathEnd s t at) (pathVertices s t at) (copies + pathWeight t at) after)
     ∙ or-else-then (pathFault s t at before copies) at _ after

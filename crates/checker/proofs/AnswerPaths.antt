@@ -13,53 +13,66 @@ use Rattle.mathematics.specs.Price.{whole, times}
 use Rattle.mathematics.specs.Lists.{someHolds}
 use Rattle.mathematics.specs.Graph.{isPath}
 use Rattle.mathematics.specs.Cover.{Item, vert, Weighted, countOf, trail, arcCosts, total, paths, price}
+use Rattle.forms.specs.AnswerFaults.{listBefore, pathFault, pathsVerdict}
+use Rattle.forms.specs.AnswerForm.{pathCount, firstPathAt, pathVerticesAt, pathWeight, pathLength, pathVertices, pathEnd, pathOf, pathsFrom, coverOf}
 use Rattle.forms.specs.Bytes.{part}
-use Rattle.forms.specs.Limits.{maxVertices, maxArcs, maxReads, maxOpening, maxCost, maxWeight, maxPathLength}
+use Rattle.forms.specs.GraphFaults.{allBelow, refusal, nothingRefused, orElse}
 use Rattle.forms.specs.GraphForm.{vertexCount, arcCount, readCount, openingPrice}
 use Rattle.forms.specs.GraphOf.{graphOf, arcsOf, arcItem}
-use Rattle.forms.specs.GraphFaults.{allBelow, refusal, nothingRefused, orElse}
 use Rattle.forms.specs.GraphReads.{Reads}
-use Rattle.forms.specs.AnswerForm.{pathCount, firstPathAt, pathHeaderLength, pathWeight, pathLength, pathVertices, pathEnd, pathOf, pathsFrom, coverOf}
-use Rattle.forms.specs.AnswerFaults.{listBefore, pathFault, pathsVerdict}
-use Rattle.checker.specs.Tallies.{readOf, Marked, Room, PathWalked, pathHeadFault, PathHead, Recorded, PathRead, NothingTallied, PathsRead}
+use Rattle.forms.specs.Layout.{maxWeight, maxPathLength}
+use Rattle.forms.specs.Limits.{roomVertices, roomArcs, roomReads, maxOpening, maxCost}
+use Rattle.checker.specs.Tallies.{readOf, ReadsMet, TotalsFit, PathWalked, pathHeadFault, PathHead, Recorded, PathRead, NothingTallied, PathsRead}
+use Rattle.forms.proofs.LayoutLaws.{bytes-few}
 use Rattle.forms.proofs.PartLaws.{part-none, part-length}
 use Rattle.certify.proofs.CertifyLawsCount.{same-at}
-use Rattle.checker.proofs.AnswerWalk.{through-few}
+use Rattle.checker.proofs.AnswerWalk.{path-length-room, weight-low, through-few}
 
 -- the head of a record: a law for each way through `path_head_fault`
-module _ (t : List ℕ) (at copies : ℕ) where
-  pub head-short : length t < at + pathHeaderLength → 15 ≡ pathHeadFault t at copies
+module _ (s t : List ℕ) (at copies : ℕ) where
+  pub head-short : length t < pathVerticesAt s at → 15 ≡ pathHeadFault s t at copies
   unfolding pathHeadFault
   head-short h = simp (lt-ltb _ _ h)
 
-  module _ (long : at + pathHeaderLength ≤ length t) where
-    pub head-empty : pathLength t at ≡ 0 → 16 ≡ pathHeadFault t at copies
+  module _ (long : pathVerticesAt s at ≤ length t) where
+    pub head-empty : pathLength s t at ≡ 0 → 16 ≡ pathHeadFault s t at copies
     unfolding pathHeadFault
     head-empty h = simp (le-ltb _ _ long, eq-eqb _ _ h)
 
-    module _ (some : pathLength t at ≡ 0 → ⊥) where
-      pub head-many : maxPathLength < pathLength t at → 16 ≡ pathHeadFault t at copies
+    module _ (some : pathLength s t at ≡ 0 → ⊥) where
+      pub head-many : maxPathLength s < pathLength s t at → 16 ≡ pathHeadFault s t at copies
       unfolding pathHeadFault
       head-many h = simp (le-ltb _ _ long, ne-eqb _ _ some, lt-ltb _ _ h)
 
-      module _ (short : pathLength t at ≤ maxPathLength) where
-        pub head-past : length t < pathEnd t at → 15 ≡ pathHeadFault t at copies
+      module _ (short : pathLength s t at ≤ maxPathLength s) where
+        pub head-past : length t < pathEnd s t at → 15 ≡ pathHeadFault s t at copies
         unfolding pathHeadFault
         head-past h = simp (le-ltb _ _ long, ne-eqb _ _ some, le-ltb _ _ short, lt-ltb _ _ h)
 
-        module _ (inside : pathEnd t at ≤ length t) where
-          pub head-light : pathWeight t at ≡ 0 → 17 ≡ pathHeadFault t at copies
+        module _ (inside : pathEnd s t at ≤ length t) where
+          pub head-light : pathWeight t at ≡ 0 → 17 ≡ pathHeadFault s t at copies
           unfolding pathHeadFault
           head-light h = simp (le-ltb _ _ long, ne-eqb _ _ some, le-ltb _ _ short, le-ltb _ _ inside, eq-eqb _ _ h)
 
           module _ (weighs : pathWeight t at ≡ 0 → ⊥) where
-            pub head-heavy : maxWeight < copies + pathWeight t at → 17 ≡ pathHeadFault t at copies
+            pub head-heavy : maxWeight s < copies + pathWeight t at → 17 ≡ pathHeadFault s t at copies
             unfolding pathHeadFault
             head-heavy h = simp (le-ltb _ _ long, ne-eqb _ _ some, le-ltb _ _ short, le-ltb _ _ inside, ne-eqb _ _ weighs, lt-ltb _ _ h)
 
-            pub head-right : copies + pathWeight t at ≤ maxWeight → 0 ≡ pathHeadFault t at copies
+            pub head-right : copies + pathWeight t at ≤ maxWeight s → 0 ≡ pathHeadFault s t at copies
             unfolding pathHeadFault
             head-right h = simp (le-ltb _ _ long, ne-eqb _ _ some, le-ltb _ _ short, le-ltb _ _ inside, ne-eqb _ _ weighs, le-ltb _ _ h)
+
+-- the head of a record lies within the answer, and its weight fits a number
+module _ {s t : List ℕ} {at copies : ℕ} (head : PathHead s t at copies) where
+  pub head-within : at + 6 ≤ length t
+  head-within = omega (arith, head, bytes-few s)
+
+  pub head-room : pathLength s t at ≤ roomVertices
+  head-room = omega (arith, head .short, path-length-room s)
+
+  pub head-low : copies + pathWeight t at < 4294967296
+  head-low = omega (arith, head .few-copies, weight-low s)
 
 -- the first of several tests decides
 first-decides : (b₁ b₂ b₃ b₄ : Bool) (rest : ℕ) → cond b₁ 15 (cond b₂ 16 (cond b₃ 15 (cond b₄ 17 rest))) ≡ cond (eqb (cond b₁ 15 (cond b₂ 16 (cond b₃ 15 (cond b₄ 17 0)))) 0) rest (cond b₁ 15 (cond b₂ 16 (cond b₃ 15 (cond b₄ 17 0))))
@@ -71,27 +84,27 @@ first-decides false false false false rest = refl
 
 -- one record: its head, whether it is a path of the graph, whether it comes after the path before
 module _ (s t : List ℕ) (at : ℕ) (before : List ℕ) (copies : ℕ) where
-  fault-split : pathFault s t at before copies ≡ cond (eqb (pathHeadFault t at copies) 0) (cond (not (allBelow (vertexCount s) (pathVertices t at) && isPath (graphOf s) (pathVertices t at))) 16 (cond (listBefore before (pathVertices t at)) 0 18)) (pathHeadFault t at copies)
+  fault-split : pathFault s t at before copies ≡ cond (eqb (pathHeadFault s t at copies) 0) (cond (not (allBelow (vertexCount s) (pathVertices s t at) && isPath (graphOf s) (pathVertices s t at))) 16 (cond (listBefore before (pathVertices s t at)) 0 18)) (pathHeadFault s t at copies)
   unfolding pathFault pathHeadFault
   fault-split =
-      first-decides (ltb (length t) (at + pathHeaderLength)) (eqb (pathLength t at) 0 || ltb maxPathLength (pathLength t at))
-      (ltb (length t) (pathEnd t at))
-      (eqb (pathWeight t at) 0 || ltb maxWeight (copies + pathWeight t at))
-      (cond (not (allBelow (vertexCount s) (pathVertices t at) && isPath (graphOf s) (pathVertices t at))) 16
-      (cond (listBefore before (pathVertices t at)) 0 18))
+      first-decides (ltb (length t) (pathVerticesAt s at)) (eqb (pathLength s t at) 0 || ltb (maxPathLength s) (pathLength s t at))
+      (ltb (length t) (pathEnd s t at))
+      (eqb (pathWeight t at) 0 || ltb (maxWeight s) (copies + pathWeight t at))
+      (cond (not (allBelow (vertexCount s) (pathVertices s t at) && isPath (graphOf s) (pathVertices s t at))) 16
+      (cond (listBefore before (pathVertices s t at)) 0 18))
 
-  pub fault-head : (fault : ℕ) → fault ≡ pathHeadFault t at copies → (fault ≡ 0 → ⊥) → fault ≡ pathFault s t at before copies
-  fault-head fault e wrong = e ∙ sym (fault-split ∙ simp (ne-eqb (pathHeadFault t at copies) 0 (λ z. wrong (e ∙ z))))
+  pub fault-head : (fault : ℕ) → fault ≡ pathHeadFault s t at copies → (fault ≡ 0 → ⊥) → fault ≡ pathFault s t at before copies
+  fault-head fault e wrong = e ∙ sym (fault-split ∙ simp (ne-eqb (pathHeadFault s t at copies) 0 (λ z. wrong (e ∙ z))))
 
-  module _ (head : pathHeadFault t at copies ≡ 0) where
-    pub fault-walk : (allBelow (vertexCount s) (pathVertices t at) && isPath (graphOf s) (pathVertices t at)) ≡ false → 16 ≡ pathFault s t at before copies
+  module _ (head : pathHeadFault s t at copies ≡ 0) where
+    pub fault-walk : (allBelow (vertexCount s) (pathVertices s t at) && isPath (graphOf s) (pathVertices s t at)) ≡ false → 16 ≡ pathFault s t at before copies
     fault-walk e = sym (fault-split ∙ simp (eq-eqb _ _ head, e))
 
-    module _ (walks : (allBelow (vertexCount s) (pathVertices t at) && isPath (graphOf s) (pathVertices t at)) ≡ true) where
-      pub fault-order : listBefore before (pathVertices t at) ≡ false → 18 ≡ pathFault s t at before copies
+    module _ (walks : (allBelow (vertexCount s) (pathVertices s t at) && isPath (graphOf s) (pathVertices s t at)) ≡ true) where
+      pub fault-order : listBefore before (pathVertices s t at) ≡ false → 18 ≡ pathFault s t at before copies
       fault-order e = sym (fault-split ∙ simp (eq-eqb _ _ head, walks, e))
 
-      pub fault-none : listBefore before (pathVertices t at) ≡ true → 0 ≡ pathFault s t at before copies
+      pub fault-none : listBefore before (pathVertices s t at) ≡ true → 0 ≡ pathFault s t at before copies
       fault-none e = sym (fault-split ∙ simp (eq-eqb _ _ head, walks, e))
 
 -- what reading a record gives, where it is refused and where it is not
@@ -99,8 +112,8 @@ module _ (s t : List ℕ) (at : ℕ) (before : List ℕ) (copies : ℕ) where
   pub record-refused : {vb va ab aa : List ℕ} {mb ma : List Bool} {fault : ℕ} → fault ≡ pathFault s t at before copies → (fault ≡ 0 → ⊥) → PathRead s t at before copies vb va ab aa mb ma fault 0
   record-refused e wrong = record { is-fault = e; tallied = λ z. absurd (wrong z) }
 
-  module _ (head : PathHead t at copies) (headed : pathHeadFault t at copies ≡ 0) {w l b : ℕ} (weighs : w ≡ pathWeight t at) (counts : l ≡ pathLength t at) (stands : b ≡ at + pathHeaderLength) where
-    same-path : part t b l ≡ pathVertices t at
+  module _ (head : PathHead s t at copies) (headed : pathHeadFault s t at copies ≡ 0) {w l b : ℕ} (weighs : w ≡ pathWeight t at) (counts : l ≡ pathLength s t at) (stands : b ≡ pathVerticesAt s at) where
+    same-path : part t b l ≡ pathVertices s t at
     same-path = rw (stands, counts)
 
     module _ {vb va ab aa : List ℕ} {ok : Bool} {cost : ℕ} (walked : PathWalked s (part t b l) w vb va ab aa ok cost) where
@@ -109,7 +122,7 @@ module _ (s t : List ℕ) (at : ℕ) (before : List ℕ) (copies : ℕ) where
           record-refused (fault-walk s t at before copies headed (rw same-path at (sym (walked .is-right) ∙ e))) (λ z. omega arith)
 
       module _ (is-path : ok ≡ true) where
-        walks : (allBelow (vertexCount s) (pathVertices t at) && isPath (graphOf s) (pathVertices t at)) ≡ true
+        walks : (allBelow (vertexCount s) (pathVertices s t at) && isPath (graphOf s) (pathVertices s t at)) ≡ true
         walks = rw same-path at (sym (walked .is-right) ∙ is-path)
 
         module _ {o : Bool} (ordered : o ≡ listBefore before (part t b l)) where
@@ -117,7 +130,7 @@ module _ (s t : List ℕ) (at : ℕ) (before : List ℕ) (copies : ℕ) where
           record-no-order e =
               record-refused (fault-order s t at before copies headed walks (rw same-path at (sym ordered ∙ e))) (λ z. omega arith)
 
-          pub record-right : {mb ma : List Bool} → o ≡ true → Marked s (part t b l) mb ma → PathRead s t at before copies vb va ab aa mb ma 0 cost
+          pub record-right : {mb ma : List Bool} → o ≡ true → ReadsMet s (part t b l) mb ma → PathRead s t at before copies vb va ab aa mb ma 0 cost
           record-right e marked =
               record {
                 is-fault = fault-none s t at before copies headed walks (rw same-path at (sym ordered ∙ e));
@@ -132,7 +145,7 @@ module _ (s t : List ℕ) (at : ℕ) (before : List ℕ) (copies : ℕ) where
                     };
               }
 
-pub room-for : {s vb ab : List ℕ} {w : ℕ} → Room s vb ab 0 128 → w ≤ maxWeight → Room s vb ab w 128
+pub room-for : {s vb ab : List ℕ} {w : ℕ} → TotalsFit s vb ab 0 (2 * roomVertices) → w ≤ maxWeight s → TotalsFit s vb ab w (2 * roomVertices)
 room-for room h =
     record {
       low-weight = h;
@@ -144,21 +157,21 @@ room-for room h =
 
 -- the price of one copy at the most
 abbrev pub mostPrice : ℕ
-mostPrice = maxOpening + maxCost * maxPathLength
+mostPrice = maxOpening + maxCost * roomVertices
 
 -- The records before at are tallied. With what the records from at on add, the tallies are those of all, and these records decide.
 pub record PathsLeft (s t vl al : List ℕ) (met : List Bool) (p lp copies cost left at : ℕ) : Type 0 where
-  pub within : (at ≤ length t) × (p + lp ≤ length t) × (copies ≤ maxWeight) × (cost ≤ copies * mostPrice)
-  pub long : (length vl ≡ maxVertices) × (length al ≡ maxArcs) × (length met ≡ maxReads)
-  pub decide : pathsVerdict s t (pathCount t) (firstPathAt (vertexCount s)) [] 0 nothingRefused ≡ pathsVerdict s t left at (part t p lp) copies nothingRefused
-  pub vertices : (v : ℕ) → v < maxVertices → getD vl v 0 + total (vert v) (pathsFrom t left at) ≡ total (vert v) (coverOf (vertexCount s) t)
-  pub vertices-low : (v : ℕ) → v < maxVertices → getD vl v 0 ≤ 128 * copies
-  pub arcs : (k : ℕ) → k < arcCount s → getD al k 0 + total (arcItem s k) (pathsFrom t left at) ≡ total (arcItem s k) (coverOf (vertexCount s) t)
-  pub arcs-low : (k : ℕ) → k < arcCount s → getD al k 0 ≤ 128 * copies
-  pub reads : (r : ℕ) → r < readCount s → (getD met r false || someHolds (paths (pathsFrom t left at)) (readOf s r)) ≡ someHolds (paths (coverOf (vertexCount s) t)) (readOf s r)
-  pub costs : pos cost +ℤ price whole (graphOf s) (pathsFrom t left at) ≡ price whole (graphOf s) (coverOf (vertexCount s) t)
+  pub within : (at ≤ length t) × (p + lp ≤ length t) × (copies ≤ maxWeight s) × (cost ≤ copies * mostPrice)
+  pub long : (length vl ≡ roomVertices) × (length al ≡ roomArcs) × (length met ≡ roomReads)
+  pub decide : pathsVerdict s t (pathCount t) (firstPathAt s) [] 0 nothingRefused ≡ pathsVerdict s t left at (part t p lp) copies nothingRefused
+  pub vertices : (v : ℕ) → v < roomVertices → getD vl v 0 + total (vert v) (pathsFrom s t left at) ≡ total (vert v) (coverOf s t)
+  pub vertices-low : (v : ℕ) → v < roomVertices → getD vl v 0 ≤ 2 * roomVertices * copies
+  pub arcs : (k : ℕ) → k < arcCount s → getD al k 0 + total (arcItem s k) (pathsFrom s t left at) ≡ total (arcItem s k) (coverOf s t)
+  pub arcs-low : (k : ℕ) → k < arcCount s → getD al k 0 ≤ 2 * roomVertices * copies
+  pub reads : (r : ℕ) → r < readCount s → (getD met r false || someHolds (paths (pathsFrom s t left at)) (readOf s r)) ≡ someHolds (paths (coverOf s t)) (readOf s r)
+  pub costs : pos cost +ℤ price whole (graphOf s) (pathsFrom s t left at) ≡ price whole (graphOf s) (coverOf s t)
 
-pub paths-begin : {s t vl al : List ℕ} {met : List Bool} {left at : ℕ} → Reads s → firstPathAt (vertexCount s) ≤ length t → NothingTallied vl al met → left ≡ pathCount t → at ≡ firstPathAt (vertexCount s) → PathsLeft s t vl al met 0 0 0 0 left at
+pub paths-begin : {s t vl al : List ℕ} {met : List Bool} {left at : ℕ} → Reads s → firstPathAt s ≤ length t → NothingTallied vl al met → left ≡ pathCount t → at ≡ firstPathAt s → PathsLeft s t vl al met 0 0 0 0 left at
 unfolding coverOf
 paths-begin {s} {t} {vl} {al} {met} {left} {at} reads fits none e f =
     record {
@@ -181,20 +194,20 @@ times-pos (suc w) c =
     ap (λ x. pos c +ℤ x) (times-pos w c) ∙ ap pos e
 
 -- the price of one path more
-price-step : (s t : List ℕ) (at cost c : ℕ) (W : List Weighted) → pos c ≡ arcCosts whole (arcsOf s) (pathVertices t at) → pos (cost + pathWeight t at * (openingPrice s + c)) +ℤ price whole (graphOf s) W ≡ pos cost +ℤ price whole (graphOf s) (pathOf t at ∷ W)
+price-step : (s t : List ℕ) (at cost c : ℕ) (W : List Weighted) → pos c ≡ arcCosts whole (arcsOf s) (pathVertices s t at) → pos (cost + pathWeight t at * (openingPrice s + c)) +ℤ price whole (graphOf s) W ≡ pos cost +ℤ price whole (graphOf s) (pathOf s t at ∷ W)
 unfolding graphOf
 price-step s t at cost c W e =
-    let copy : times whole (pathWeight t at) (pos (openingPrice s) +ℤ arcCosts whole (arcsOf s) (pathVertices t at)) ≡ pos (pathWeight t at * (openingPrice s + c)) = ap (λ x. times whole (pathWeight t at) (pos (openingPrice s) +ℤ x)) (sym e) ∙ times-pos (pathWeight t at) (openingPrice s + c) in
+    let copy : times whole (pathWeight t at) (pos (openingPrice s) +ℤ arcCosts whole (arcsOf s) (pathVertices s t at)) ≡ pos (pathWeight t at * (openingPrice s + c)) = ap (λ x. times whole (pathWeight t at) (pos (openingPrice s) +ℤ x)) (sym e) ∙ times-pos (pathWeight t at) (openingPrice s + c) in
     +ℤ-assoc (pos cost) (pos (pathWeight t at * (openingPrice s + c))) (price whole (graphOf s) W)
     ∙ ap (λ x. pos cost +ℤ (x +ℤ price whole (graphOf s) W)) (sym copy)
 
-paths-split : (t : List ℕ) (left at : ℕ) → 0 < left → pathsFrom t left at ≡ pathOf t at ∷ pathsFrom t (left - 1) (pathEnd t at)
-paths-split t zero at h = absurd (omega arith)
-paths-split t (suc left) at h =
+paths-split : (s t : List ℕ) (left at : ℕ) → 0 < left → pathsFrom s t left at ≡ pathOf s t at ∷ pathsFrom s t (left - 1) (pathEnd s t at)
+paths-split s t zero at h = absurd (omega arith)
+paths-split s t (suc left) at h =
     let same : suc left - 1 ≡ left = omega arith in
     rw same
 
-verdict-split : (s t : List ℕ) (left at : ℕ) (before : List ℕ) (copies : ℕ) → 0 < left → pathsVerdict s t left at before copies nothingRefused ≡ orElse (pathFault s t at before copies) at (pathsVerdict s t (left - 1) (pathEnd t at) (pathVertices t at) (copies + pathWeight t at) nothingRefused)
+verdict-split : (s t : List ℕ) (left at : ℕ) (before : List ℕ) (copies : ℕ) → 0 < left → pathsVerdict s t left at before copies nothingRefused ≡ orElse (pathFault s t at before copies) at (pathsVerdict s t (left - 1) (pathEnd s t at) (pathVertices s t at) (copies + pathWeight t at) nothingRefused)
 unfolding pathsVerdict
 verdict-split s t zero at before copies h = absurd (omega arith)
 verdict-split s t (suc left) at before copies h =
@@ -214,7 +227,7 @@ or-none true = refl
 or-none false = refl
 
 module _ {s t vl al : List ℕ} {met : List Bool} {p lp copies cost left at : ℕ} (inv : PathsLeft s t vl al met p lp copies cost left at) where
-  pub paths-room : Room s vl al 0 128
+  pub paths-room : TotalsFit s vl al 0 (2 * roomVertices)
   paths-room =
       record {
         low-weight = omega arith;
@@ -256,48 +269,48 @@ module _ {s t vl al : List ℕ} {met : List Bool} {p lp copies cost left at : �
           tallied =
               λ z.
               record {
-                vertices = λ v l. rw (none, add-zero) at (inv .vertices v (omega (arith, reads .arcs .header .few-vertices)));
+                vertices = λ v l. rw (none, add-zero) at (inv .vertices v (omega (arith, reads .arcs .header .vertices-room)));
                 arcs = λ k l. rw (none, add-zero) at (inv .arcs k l);
                 reads = λ r l. sym (or-none (getD met r false)) ∙ (rw none at (inv .reads r l));
-                costs = sym (+ℤ-idr (pos cost)) ∙ ap (λ k. pos cost +ℤ price whole (graphOf s) (pathsFrom t k at)) (sym none) ∙ inv .costs;
+                costs = sym (+ℤ-idr (pos cost)) ∙ ap (λ k. pos cost +ℤ price whole (graphOf s) (pathsFrom s t k at)) (sym none) ∙ inv .costs;
               };
         }
 
   module _ (more : 0 < left) {va aa : List ℕ} {ma : List Bool} {c : ℕ} (done : Recorded s t at copies vl va al aa met ma c) (right : pathFault s t at (part t p lp) copies ≡ 0) where
-    split : pathsFrom t left at ≡ pathOf t at ∷ pathsFrom t (left - 1) (pathEnd t at)
-    split = paths-split t left at more
+    split : pathsFrom s t left at ≡ pathOf s t at ∷ pathsFrom s t (left - 1) (pathEnd s t at)
+    split = paths-split s t left at more
 
-    few : (i : Item) → pathWeight t at * countOf i (trail (pathVertices t at)) ≤ pathWeight t at * 128
+    few : (i : Item) → pathWeight t at * countOf i (trail (pathVertices s t at)) ≤ pathWeight t at * (2 * roomVertices)
     few i =
         mul-le-mul-left (pathWeight t at)
-        (omega (arith, through-few i (pathVertices t at), part-length t (at + 5) (pathLength t at) (done .head .whole), done .head .short))
+        (omega (arith, through-few i (pathVertices s t at), part-length t (pathVerticesAt s at) (pathLength s t at) (done .head .whole), done .head .short, path-length-room s))
 
     -- the price of this path's copies is no more than the most
     pub price-low : (w o : ℕ) → o ≤ maxOpening → w * (o + c) ≤ w * mostPrice
     price-low w o h = mul-le-mul-left w (omega (arith, done .low-cost))
 
-    price-turn : pos (cost + pathWeight t at * (openingPrice s + c)) +ℤ price whole (graphOf s) (pathsFrom t (left - 1) (pathEnd t at)) ≡ price whole (graphOf s) (coverOf (vertexCount s) t)
+    price-turn : pos (cost + pathWeight t at * (openingPrice s + c)) +ℤ price whole (graphOf s) (pathsFrom s t (left - 1) (pathEnd s t at)) ≡ price whole (graphOf s) (coverOf s t)
     price-turn =
-        price-step s t at cost c (pathsFrom t (left - 1) (pathEnd t at)) (done .costs)
+        price-step s t at cost c (pathsFrom s t (left - 1) (pathEnd s t at)) (done .costs)
         ∙ ap (λ W. pos cost +ℤ price whole (graphOf s) W) (sym split)
         ∙ inv .costs
 
-    turned : openingPrice s ≤ maxOpening → PathsLeft s t va aa ma (at + 5) (pathLength t at) (copies + pathWeight t at) (cost + pathWeight t at * (openingPrice s + c)) (left - 1) (pathEnd t at)
+    turned : openingPrice s ≤ maxOpening → PathsLeft s t va aa ma (pathVerticesAt s at) (pathLength s t at) (copies + pathWeight t at) (cost + pathWeight t at * (openingPrice s + c)) (left - 1) (pathEnd s t at)
     turned low =
         record {
           within = omega (arith, done .head, price-low (pathWeight t at) (openingPrice s) low, inv .within);
           long = (done .grown .vertices-long, done .grown .arcs-long, done .marked .long);
           decide = inv .decide ∙ verdict-split s t left at (part t p lp) copies more ∙ simp (eq-eqb _ _ right);
-          vertices = λ v l. ap (λ x. x + total (vert v) (pathsFrom t (left - 1) (pathEnd t at))) (done .grown .vertices v l) ∙ add-assoc _ _ _ ∙ (rw split at (inv .vertices v l));
+          vertices = λ v l. ap (λ x. x + total (vert v) (pathsFrom s t (left - 1) (pathEnd s t at))) (done .grown .vertices v l) ∙ add-assoc _ _ _ ∙ (rw split at (inv .vertices v l));
           vertices-low = λ v l. omega (arith, done .grown .vertices v l, few (vert v), inv .vertices-low v l);
-          arcs = λ k l. ap (λ x. x + total (arcItem s k) (pathsFrom t (left - 1) (pathEnd t at))) (done .grown .arcs k l) ∙ add-assoc _ _ _ ∙ (rw split at (inv .arcs k l));
+          arcs = λ k l. ap (λ x. x + total (arcItem s k) (pathsFrom s t (left - 1) (pathEnd s t at))) (done .grown .arcs k l) ∙ add-assoc _ _ _ ∙ (rw split at (inv .arcs k l));
           arcs-low = λ k l. omega (arith, done .grown .arcs k l, few (arcItem s k), inv .arcs-low k l);
           reads = λ r l. rw (done .marked .met r l, or-assoc) (rw split at (inv .reads r l));
           costs = price-turn;
         }
 
     -- the next record, from what the code has read
-    pub paths-turn : {w l b o : ℕ} → w ≡ pathWeight t at → l ≡ pathLength t at → b ≡ at + pathHeaderLength → o ≡ openingPrice s → openingPrice s ≤ maxOpening → PathsLeft s t va aa ma b l (copies + w) (cost + w * (o + c)) (left - 1) (b + l)
+    pub paths-turn : {w l b o : ℕ} → w ≡ pathWeight t at → l ≡ pathLength s t at → b ≡ pathVerticesAt s at → o ≡ openingPrice s → openingPrice s ≤ maxOpening → PathsLeft s t va aa ma b l (copies + w) (cost + w * (o + c)) (left - 1) (b + l)
     paths-turn weighs counts stands opens low = rw (stands, weighs, counts, opens) (turned low)
 
 -- the same, told by a result that has these numbers
@@ -305,13 +318,13 @@ pub paths-told : {s t vl al : List ℕ} {met : List Bool} {number place cost n q
 paths-told e h = rw (e .0, e .1, e .2) h
 
 -- nothing is tallied in arrays as they are made
-pub nothing-tallied : NothingTallied (replicate 64 0) (replicate 256 0) (replicate 16 false)
+pub nothing-tallied : NothingTallied (replicate roomVertices 0) (replicate roomArcs 0) (replicate roomReads false)
 nothing-tallied =
     record {
-      vertices-long = length-replicate {A = ℕ} 64 0;
-      arcs-long = length-replicate {A = ℕ} 256 0;
-      reads-long = length-replicate 16 false;
-      vertices = same-at {A = ℕ} 0 64;
-      arcs = same-at {A = ℕ} 0 256;
-      reads = same-at false 16;
+      vertices-long = length-replicate {A = ℕ} roomVertices 0;
+      arcs-long = length-replicate {A = ℕ} roomArcs 0;
+      reads-long = length-replicate roomReads false;
+      vertices = same-at {A = ℕ} 0 roomVertices;
+      arcs = same-at {A = ℕ} 0 roomArcs;
+      reads = same-at false roomReads;
     }

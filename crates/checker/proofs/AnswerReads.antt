@@ -13,10 +13,11 @@ use borrow.Author.Tests.{eq-eqb, ne-eqb}
 use Rattle.mathematics.specs.Lists.{All, begins, holds}
 use Rattle.mathematics.proofs.Parts.{Rising}
 use Rattle.forms.specs.Bytes.{byte, part}
-use Rattle.forms.specs.GraphForm.{readCount, firstReadAt, readLength, readVertices, readEnd}
+use Rattle.forms.specs.GraphForm.{readCount, firstReadAt, readLength, readVerticesAt, readVertices, readEnd}
 use Rattle.forms.specs.GraphOf.{readsFrom}
+use Rattle.forms.specs.Limits.{roomReads}
 use Rattle.forms.specs.GraphReads.{Reads, ReadRight, ReadsRight}
-use Rattle.checker.specs.Tallies.{readOf, Marked}
+use Rattle.checker.specs.Tallies.{readOf, ReadsMet}
 use Rattle.forms.proofs.PartLaws.{part-cons, part-none}
 
 -- a list whose numbers are all above v holds nothing that begins with v
@@ -125,16 +126,16 @@ module _ {s : List ℕ} {a la : ℕ} {t : List ℕ} {b lb i j : ℕ} (inv : Hold
 
 -- The reads before r are marked, those from r on stand from at on and are as they were.
 pub record ReadsLeft (s p : List ℕ) (before met : List Bool) (r at : ℕ) : Type 0 where
-  pub within : (r ≤ readCount s) × (readCount s ≤ 16) × (length met ≡ 16)
+  pub within : (r ≤ readCount s) × (readCount s ≤ roomReads) × (length met ≡ roomReads)
   pub right : ReadsRight s (readCount s - r) at
   pub rest : (k : ℕ) → readOf s (r + k) ≡ getD (readsFrom s (readCount s - r) at) k []
   pub done : (k : ℕ) → k < r → getD met k false ≡ (getD before k false || holds p (readOf s k))
   pub kept : (k : ℕ) → r ≤ k → getD met k false ≡ getD before k false
 
-pub reads-begin : (s p : List ℕ) (met : List Bool) (at : ℕ) → Reads s → length met ≡ 16 → at ≡ firstReadAt s → ReadsLeft s p met met 0 at
+pub reads-begin : (s p : List ℕ) (met : List Bool) (at : ℕ) → Reads s → length met ≡ roomReads → at ≡ firstReadAt s → ReadsLeft s p met met 0 at
 reads-begin s p met at h long e =
     record {
-      within = omega (arith, h .arcs .header .few-reads);
+      within = omega (arith, h .arcs .header .reads-room);
       right = simp (sub-zero, e) (h .reads);
       rest = λ k. simp (sub-zero, zero-add, e);
       done = λ k l. absurd (omega arith);
@@ -158,7 +159,7 @@ module _ {s p : List ℕ} {before met : List Bool} {r at : ℕ} (inv : ReadsLeft
         let e : r + suc k ≡ r + 1 + k = omega arith in
         rw (e, split) at (inv .rest (suc k))
 
-    module _ (m : Bool) (la : ℕ) (long : la ≡ readLength s at) {from next : ℕ} (begins : from ≡ at + 1) (ends : next ≡ readEnd s at) (e : m ≡ (getD met r false || holds p (part s from la))) where
+    module _ (m : Bool) (la : ℕ) (long : la ≡ readLength s at) {from next : ℕ} (begins : from ≡ readVerticesAt s at) (ends : next ≡ readEnd s at) (e : m ≡ (getD met r false || holds p (part s from la))) where
       marked : (k : ℕ) → k < r + 1 → Dec (k < r) → getD (set met r m) k false ≡ (getD before k false || holds p (readOf s k))
       marked k l (yes h) = getD-set-other met r k m false (omega arith) ∙ inv .done k h
       marked k l (no h) =
@@ -175,5 +176,5 @@ module _ {s p : List ℕ} {before met : List Bool} {r at : ℕ} (inv : ReadsLeft
             kept = λ k l. getD-set-other met r k m false (omega arith) ∙ inv .kept k (omega arith);
           }
 
-  pub reads-end : readCount s ≤ r → Marked s p before met
+  pub reads-end : readCount s ≤ r → ReadsMet s p before met
   reads-end h = record { long = inv .within .2; met = λ k l. inv .done k (omega arith) }

@@ -6,42 +6,44 @@ use mathlib.Core.Path.{_≡_, refl, sym, ap, _∙_}
 use mathlib.Core.List.{List, []}
 use mathlib.Core.Bool.{Bool, true, false, cond}
 use lib.Dec.{ltb}
-use lib.ListN.{length, take, drop}
+use lib.ListN.{length, drop, length-drop}
+use lib.Seq.{length-take-le}
 use borrow.Author.Tests.{lt-ltb, le-ltb, ltb-true, eq-eqb, ne-eqb}
+use Rattle.forms.specs.declared.Verdict.{Verdict}
+use Rattle.forms.specs.AnswerForm.{pathCount, firstPathAt, pathLength, pathVerticesAt, pathEnd}
 use Rattle.forms.specs.Bytes.{part}
-use Rattle.forms.specs.GraphForm.{vertexCount}
 use Rattle.forms.specs.GraphFaults.{refusal, nothingRefused}
-use Rattle.forms.specs.AnswerForm.{pathCount, firstPathAt, pathHeaderLength, pathLength, pathEnd, pathVertices}
-use Rattle.checker.specs.Check.{checkVerdict, handOutVerdict, pathAt, handedOut}
+use Rattle.checker.specs.Check.{checkVerdict, handOutVerdict, pathAt, handedOut, handedOutAt}
+use Rattle.checker.specs.HandedOut.{PartFound}
 use Rattle.checker.specs.Tallies.{PathsStand}
 use Rattle.checker.specs.Accepted.{PathsRight, Accepted}
 use Rattle.checker.proofs.Accepted.{earlier-first, number-zero-accepted}
 
 -- Of k paths to pass, left are still ahead, the next at an offset.
-pub record Passing (t : List ℕ) (k from at left : ℕ) : Type 0 where
-  pub stands : PathsStand t (left + 1) at
-  pub same : pathAt t left at ≡ pathAt t k from
+pub record Passing (s t : List ℕ) (k from at left : ℕ) : Type 0 where
+  pub stands : PathsStand s t (left + 1) at
+  pub same : pathAt s t left at ≡ pathAt s t k from
 
-first-stands : (t : List ℕ) (left at : ℕ) → PathsStand t (left + 1) at → (pathEnd t at ≤ length t) × PathsStand t left (pathEnd t at)
-first-stands t left at p = rw (add-one left) at p
+first-stands : (s t : List ℕ) (left at : ℕ) → PathsStand s t (left + 1) at → (pathEnd s t at ≤ length t) × PathsStand s t left (pathEnd s t at)
+first-stands s t left at p = rw (add-one left) at p
 
-pub pass-begin : {t : List ℕ} {k from : ℕ} → PathsStand t (k + 1) from → Passing t k from from k
+pub pass-begin : {s t : List ℕ} {k from : ℕ} → PathsStand s t (k + 1) from → Passing s t k from from k
 pass-begin p = record { stands = p; same = refl }
 
-module _ {t : List ℕ} {k from at left : ℕ} (p : Passing t k from at left) where
-  pub pass-within : pathEnd t at ≤ length t
-  pass-within = first-stands t left at (p .stands) .0
+module _ {s t : List ℕ} {k from at left : ℕ} (p : Passing s t k from at left) where
+  pub pass-within : pathEnd s t at ≤ length t
+  pass-within = first-stands s t left at (p .stands) .0
 
-  pub pass-turn : {next : ℕ} → next ≡ pathEnd t at → 0 < left → Passing t k from next (left - 1)
+  pub pass-turn : {next : ℕ} → next ≡ pathEnd s t at → 0 < left → Passing s t k from next (left - 1)
   pass-turn e h =
       let split : left ≡ suc (left - 1) = omega arith in
       let more : left - 1 + 1 ≡ left = omega arith in
       record {
-        stands = rw (e, more) (first-stands t left at (p .stands) .1);
-        same = rw e (sym (ap (λ n. pathAt t n at) split) ∙ p .same);
+        stands = rw (e, more) (first-stands s t left at (p .stands) .1);
+        same = rw e (sym (ap (λ n. pathAt s t n at) split) ∙ p .same);
       }
 
-  pub pass-end : left ≤ 0 → (at ≡ pathAt t k from) × (pathEnd t at ≤ length t)
+  pub pass-end : left ≤ 0 → (at ≡ pathAt s t k from) × (pathEnd s t at ≤ length t)
   pass-end h =
       let none : left ≡ 0 = omega arith in
       (rw none at (p .same), pass-within)
@@ -69,23 +71,31 @@ has-path s t k e =
     by true p q = ltb-true k (pathCount t) p
     by false p q = absurd (omega arith)
 
-paths-stand : (s t : List ℕ) (count at : ℕ) (before : List ℕ) (copies k : ℕ) → PathsRight s t count at before copies → k < count → PathsStand t (suc k) at
+paths-stand : (s t : List ℕ) (count at : ℕ) (before : List ℕ) (copies k : ℕ) → PathsRight s t count at before copies → k < count → PathsStand s t (suc k) at
 paths-stand s t zero at before copies k p h = absurd (omega arith)
 paths-stand s t (suc count) at before copies zero p h = (p .0 .within, tt)
-paths-stand s t (suc count) at before copies (suc k) p h = (p .0 .within, paths-stand s t count (pathEnd t at) _ _ k (p .1) (omega arith))
+paths-stand s t (suc count) at before copies (suc k) p h = (p .0 .within, paths-stand s t count (pathEnd s t at) _ _ k (p .1) (omega arith))
 
-pub stands-to : {s t : List ℕ} {k : ℕ} → HasPath s t k → PathsStand t (k + 1) (firstPathAt (vertexCount s))
-stands-to {s} {t} {k} h = rw (add-one k) (paths-stand s t (pathCount t) (firstPathAt (vertexCount s)) [] 0 k (h .accepted .paths) (h .below))
+pub stands-to : {s t : List ℕ} {k : ℕ} → HasPath s t k → PathsStand s t (k + 1) (firstPathAt s)
+stands-to {s} {t} {k} h = rw (add-one k) (paths-stand s t (pathCount t) (firstPathAt s) [] 0 k (h .accepted .paths) (h .below))
 
--- the empty part, and the part that is path k
-pub nothing-handed : (s t : List ℕ) (k : ℕ) → (handOutVerdict s t k .number ≡ 0 → ⊥) → [] ≡ handedOut s t k
-unfolding handedOut
-nothing-handed s t k h = simp (ne-eqb (handOutVerdict s t k .number) 0 h)
+-- nothing is handed out: the empty part at the answer's front
+pub nothing-found : (s t : List ℕ) (k : ℕ) {v : Verdict} {start count : ℕ} → v ≡ handOutVerdict s t k → (v .number ≡ 0 → ⊥) → start ≡ 0 → count ≡ 0 →
+    PartFound s t k (v .number) (v .place) start count
+unfolding handedOut handedOutAt
+nothing-found s t k e n front none =
+    let refused = ne-eqb (handOutVerdict s t k .number) 0 (λ z. n (ap (λ (w : Verdict). w .number) e ∙ z)) in
+    record { verdict = e; begins = front ∙ simp refused; long = none ∙ simp refused }
 
-pub path-handed : (s t : List ℕ) (k : ℕ) {n from at start end : ℕ} → handOutVerdict s t k .number ≡ 0 → n ≡ vertexCount s → from ≡ firstPathAt n → at ≡ pathAt t k from →
-    start ≡ at + pathHeaderLength → end ≡ pathEnd t at → take (end - start) (drop start t) ≡ handedOut s t k
-unfolding handedOut part
-path-handed s t k {n} {from} {at} {start} {end} h counted first e begins ends =
-    let long : end - start ≡ pathLength t at = omega arith in
-    let here : at ≡ pathAt t k (firstPathAt (vertexCount s)) = e ∙ ap (pathAt t k) (first ∙ ap firstPathAt counted) in
-    simp (eq-eqb (handOutVerdict s t k .number) 0 h) (rw (long, begins) (ap (pathVertices t) here))
+-- path k is handed out: its vertices stand behind the header of its record, which lies within the answer
+pub path-found : (s t : List ℕ) (k : ℕ) {v : Verdict} {from at start count : ℕ} → v ≡ handOutVerdict s t k → v .number ≡ 0 → from ≡ firstPathAt s →
+    at ≡ pathAt s t k from → pathEnd s t at ≤ length t → start ≡ pathVerticesAt s at → count ≡ pathLength s t at → PartFound s t k (v .number) (v .place) start count
+unfolding handedOut handedOutAt part
+path-found s t k {v} {from} {at} {start} {count} d h first e within begins long =
+    let passed = eq-eqb (handOutVerdict s t k .number) 0 (ap (λ (w : Verdict). w .number) (sym d) ∙ h) in
+    let here : pathAt s t k (firstPathAt s) ≡ at = sym (e ∙ ap (pathAt s t k) first) in
+    record {
+      verdict = d;
+      begins = begins ∙ simp (passed, here);
+      long = long ∙ simp (passed, here, length-take-le (pathLength s t at) (drop (pathVerticesAt s at) t) (simp length-drop (omega arith)));
+    }

@@ -12,11 +12,11 @@ use Rattle.mathematics.specs.Lists.{someHolds}
 use Rattle.mathematics.specs.Bound.{vertexSlacksHold, arcSlackHolds}
 use Rattle.mathematics.specs.Cover.{Ask, Weighted, vert, vertexAsks, arcAsk, total, paths}
 use Rattle.forms.specs.declared.Verdict.{Verdict}
+use Rattle.forms.specs.AnswerForm.{answerMarks}
 use Rattle.forms.specs.Bytes.{tabulate}
+use Rattle.forms.specs.GraphFaults.{refusal, then, firstFault}
 use Rattle.forms.specs.GraphForm.{vertexDemand, arcAt, arcDemand}
 use Rattle.forms.specs.GraphOf.{vertexOf, arcOf, graphOf, arcItem}
-use Rattle.forms.specs.GraphFaults.{refusal, then, firstFault}
-use Rattle.forms.specs.AnswerForm.{marksOf}
 use Rattle.checker.specs.Check.{demandsVerdict, readsMetVerdict, vertexSlacksVerdict, arcSlacksVerdict}
 use Rattle.certify.specs.Certify.{arcPlace, readPlace, vertexUnmet, arcUnmet, readUnmet, vertexSlackFault, arcSlackFault}
 
@@ -66,18 +66,18 @@ reads-are-met s W met after (r ∷ rs) i h =
 
 module _ (s t : List ℕ) (after : Verdict) where
   pub slacks-of-vertices : (n k : ℕ) →
-      vertexSlacksVerdict whole (graphOf s) (marksOf t) k (tabulate (vertexOf s) n k) after ≡ then (firstFault (vertexSlackFault s t) (λ v. v) n k) after
+      vertexSlacksVerdict whole (graphOf s) (answerMarks s t) k (tabulate (vertexOf s) n k) after ≡ then (firstFault (vertexSlackFault s t) (λ v. v) n k) after
   unfolding vertexSlacksVerdict firstFault vertexSlackFault then
   slacks-of-vertices zero k = refl
   slacks-of-vertices (suc n) k =
-      ap (λ y. cond (vertexSlacksHold whole (graphOf s) (marksOf t) k (vertexOf s k)) y (refusal 21 k)) (slacks-of-vertices n (suc k))
-      ∙ one (vertexSlacksHold whole (graphOf s) (marksOf t) k (vertexOf s k)) 20 k (firstFault (vertexSlackFault s t) (λ v. v) n (suc k)) after
+      ap (λ y. cond (vertexSlacksHold whole (graphOf s) (answerMarks s t) k (vertexOf s k)) y (refusal 21 k)) (slacks-of-vertices n (suc k))
+      ∙ one (vertexSlacksHold whole (graphOf s) (answerMarks s t) k (vertexOf s k)) 20 k (firstFault (vertexSlackFault s t) (λ v. v) n (suc k)) after
 
-  pub slacks-of-arcs : (n k : ℕ) → arcSlacksVerdict whole (marksOf t) (arcPlace s k) (tabulate (arcOf s) n k) after ≡ then (firstFault (arcSlackFault s t) (arcPlace s) n k) after
+  pub slacks-of-arcs : (n k : ℕ) → arcSlacksVerdict whole (answerMarks s t) (arcPlace s k) (tabulate (arcOf s) n k) after ≡ then (firstFault (arcSlackFault s t) (arcPlace s) n k) after
   unfolding arcSlacksVerdict firstFault arcSlackFault then
   slacks-of-arcs zero k = refl
   slacks-of-arcs (suc n) k =
       let next : suc (arcPlace s k) ≡ arcPlace s (suc k) = omega arith in
-      ap (λ y. cond (arcSlackHolds whole (marksOf t) (arcOf s k)) y (refusal 21 (arcPlace s k)))
-      (ap (λ j. arcSlacksVerdict whole (marksOf t) j (tabulate (arcOf s) n (suc k)) after) next ∙ slacks-of-arcs n (suc k))
-      ∙ one (arcSlackHolds whole (marksOf t) (arcOf s k)) 20 (arcPlace s k) (firstFault (arcSlackFault s t) (arcPlace s) n (suc k)) after
+      ap (λ y. cond (arcSlackHolds whole (answerMarks s t) (arcOf s k)) y (refusal 21 (arcPlace s k)))
+      (ap (λ j. arcSlacksVerdict whole (answerMarks s t) j (tabulate (arcOf s) n (suc k)) after) next ∙ slacks-of-arcs n (suc k))
+      ∙ one (arcSlackHolds whole (answerMarks s t) (arcOf s k)) 20 (arcPlace s k) (firstFault (arcSlackFault s t) (arcPlace s) n (suc k)) after

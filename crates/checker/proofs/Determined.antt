@@ -7,6 +7,7 @@ use mathlib.Core.List.{List, [], _∷_}
 use mathlib.Core.Bool.{Bool, true, false, cond, not, _&&_, _||_}
 use mathlib.Core.Logic.{_⊎_, inl, inr}
 use lib.Dec.{T, ltb, leb, eqb, leb→le}
+use denote.Ref.{RefT, ptr, now}
 use borrow.Author.Tests.{eq-eqb, lt-ltb}
 use Rattle.mathematics.proofs.Basics.{and-l, and-r}
 use lib.ListN.{length}
@@ -18,13 +19,16 @@ use Rattle.mathematics.specs.Graph.{Vertex, Arc, Graph, isPath}
 use Rattle.mathematics.specs.Cover.{Ask, Weighted, asks, total, paths, price}
 use Rattle.mathematics.specs.Bound.{Marks, vertexSlacksHold, arcSlackHolds, bound}
 use Rattle.forms.specs.declared.Verdict.{Verdict}
-use Rattle.forms.specs.Limits.{maxPaths, maxWeight, markLimit, maxPathLength}
+use Rattle.forms.specs.AnswerFaults.{answerHeaderVerdict, markFault, marksVerdict, listBefore, pathFault, pathsVerdict}
+use Rattle.forms.specs.AnswerForm.{answerLengthWord, answerVersionAt, answerVersion, pathCountAt, pathCount, statedPrice, markPartLength, inMarkAt, signed32, answerMarks, firstPathAt, pathVerticesAt, pathWeight, pathLength, pathVertices, pathEnd, coverOf, markParts}
+use Rattle.forms.specs.GraphFaults.{refusal, nothingRefused, orElse, allBelow, graphVerdict}
 use Rattle.forms.specs.GraphForm.{vertexCount}
 use Rattle.forms.specs.GraphOf.{graphOf}
-use Rattle.forms.specs.GraphFaults.{refusal, nothingRefused, orElse, allBelow, graphVerdict}
-use Rattle.forms.specs.AnswerForm.{answerLengthWord, answerVersion, pathCount, statedPrice, markLength, inMarkAt, signed32, marksOf, firstPathAt, pathHeaderLength, pathWeight, pathLength, pathVertices, pathEnd, coverOf}
-use Rattle.forms.specs.AnswerFaults.{answerHeaderVerdict, markFault, marksVerdict, listBefore, pathFault, pathsVerdict}
-use Rattle.checker.specs.Check.{samePrice, demandsVerdict, readsMetVerdict, vertexSlacksVerdict, arcSlacksVerdict, certificateVerdict, answerVerdict, checkVerdict, handOutVerdict, handedOut}
+use Rattle.forms.specs.Layout.{maxPaths, maxWeight, answerVersionOf, maxPathLength}
+use Rattle.forms.specs.Limits.{markLimit}
+use Rattle.checker.specs.Check.{samePrice, demandsVerdict, readsMetVerdict, vertexSlacksVerdict, arcSlacksVerdict, certificateVerdict, answerVerdict, checkVerdict, handOutVerdict, handedOut, handedOutAt}
+use Rattle.checker.specs.HandedOut.{PartFound}
+use Rattle.checker.specs.declared.check.PathPart.{PathPart}
 use Rattle.checker.proofs.GraphReads.{number-to-seven}
 use Rattle.checker.proofs.Accepted.{number-zero-accepted, accepted-nothing-refused}
 use Rattle.checker.proofs.HandedOut.{number-zero-handed-out}
@@ -37,9 +41,22 @@ check-determined s t r r′ e d = e ∙ sym d
 pub hand-out-verdict-determined : (s t : List ℕ) (k : ℕ) (r r′ : Verdict) → r ≡ handOutVerdict s t k → r′ ≡ handOutVerdict s t k → r ≡ r′
 hand-out-verdict-determined s t k r r′ e d = e ∙ sym d
 
--- the part handed out
-pub hand-out-determined : (s t : List ℕ) (k : ℕ) (p p′ : List ℕ) → p ≡ handedOut s t k → p′ ≡ handedOut s t k → p ≡ p′
-hand-out-determined s t k p p′ e d = e ∙ sym d
+-- the part by numbers
+pub find-path-determined : (s t : List ℕ) (k : ℕ) (r r′ : PathPart) → PartFound s t k (r .number) (r .place) (r .offset) (r .length) →
+    PartFound s t k (r′ .number) (r′ .place) (r′ .offset) (r′ .length) → r ≡ r′
+find-path-determined s t k r r′ e d =
+    let v : refusal (r .number) (r .place) ≡ refusal (r′ .number) (r′ .place) = e .verdict ∙ sym (d .verdict) in
+    let offsets : r .offset ≡ r′ .offset = e .begins ∙ sym (d .begins) in
+    let lengths : r .length ≡ r′ .length = e .long ∙ sym (d .long) in
+    λ i. record { number = v i .number; place = v i .place; offset = offsets i; length = lengths i }
+
+-- the part handed out: its bytes, and its place in memory, which is a block and an offset. The clauses are those of the call
+pub hand-out-determined : (s : List ℕ) (answer r r′ : RefT (List ℕ)) (k : ℕ) →
+    now r ≡ handedOut s (now answer) k → (ptr r .0 ≡ ptr answer .0) × (ptr r .1 ≡ ptr answer .1 + handedOutAt s (now answer) k) →
+    now r′ ≡ handedOut s (now answer) k → (ptr r′ .0 ≡ ptr answer .0) × (ptr r′ .1 ≡ ptr answer .1 + handedOutAt s (now answer) k) →
+    (now r ≡ now r′) × (ptr r ≡ ptr r′)
+hand-out-determined s answer r r′ k e at d at′ =
+    (e ∙ sym d, λ i. ((at .0 ∙ sym (at′ .0)) i, (at .1 ∙ sym (at′ .1)) i))
 
 -- "both are 0 where nothing is refused"
 pub check-place-zero : (s t : List ℕ) → checkVerdict s t .number ≡ 0 → checkVerdict s t .place ≡ 0
@@ -71,18 +88,18 @@ or-else-numbered fault at after f h = either Numbered (eqb fault 0) after (refus
 header-numbered : (s t : List ℕ) (after : Verdict) → Numbered after → Numbered (answerHeaderVerdict s t after)
 unfolding answerHeaderVerdict
 header-numbered s t after h =
-    let v₁₃ = cond (ltb maxPaths (pathCount t)) (refusal 13 5) after in
-    let v₁₂ = cond (not (eqb (answerVersion t) 1)) (refusal 12 4) v₁₃ in
-    either Numbered (ltb (length t) (firstPathAt (vertexCount s)) || not (eqb (answerLengthWord t) (length t))) (refusal 11 0) v₁₂ (some 11 tt)
-    (either Numbered (not (eqb (answerVersion t) 1)) (refusal 12 4) v₁₃ (some 12 tt) (either Numbered (ltb maxPaths (pathCount t)) (refusal 13 5) after (some 13 tt) h))
+    let v₁₃ = cond (ltb (maxPaths s) (pathCount t)) (refusal 13 pathCountAt) after in
+    let v₁₂ = cond (not (eqb (answerVersion t) (answerVersionOf s))) (refusal 12 answerVersionAt) v₁₃ in
+    either Numbered (ltb (length t) (firstPathAt s) || not (eqb (answerLengthWord t) (length t))) (refusal 11 0) v₁₂ (some 11 tt)
+    (either Numbered (not (eqb (answerVersion t) (answerVersionOf s))) (refusal 12 answerVersionAt) v₁₃ (some 12 tt) (either Numbered (ltb (maxPaths s) (pathCount t)) (refusal 13 pathCountAt) after (some 13 tt) h))
 
 marks-numbered : (t : List ℕ) (count at : ℕ) (after : Verdict) → Numbered after → Numbered (marksVerdict t count at after)
 unfolding marksVerdict markFault
 marks-numbered t zero at after h = h
 marks-numbered t (suc count) at after h =
-    or-else-numbered (markFault t at) at (marksVerdict t count (at + markLength) after)
+    or-else-numbered (markFault t at) at (marksVerdict t count (at + markPartLength) after)
     (either AnswerNumber (leZ (negℤ (pos markLimit)) (signed32 t at) && leZ (signed32 t at) (pos markLimit)) 0 14 (inl refl) (some 14 tt))
-    (marks-numbered t count (at + markLength) after h)
+    (marks-numbered t count (at + markPartLength) after h)
 
 path-numbered : (a b c d e f : Bool) → AnswerNumber (cond a 15 (cond b 16 (cond c 15 (cond d 17 (cond e 16 (cond f 0 18))))))
 path-numbered true b c d e f = some 15 tt
@@ -97,11 +114,11 @@ paths-numbered : (s t : List ℕ) (count at : ℕ) (before : List ℕ) (copies :
 unfolding pathsVerdict pathFault
 paths-numbered s t zero at before copies after h = either Numbered (ltb at (length t)) (refusal 15 at) after (some 15 tt) h
 paths-numbered s t (suc count) at before copies after h =
-    or-else-numbered (pathFault s t at before copies) at (pathsVerdict s t count (pathEnd t at) (pathVertices t at) (copies + pathWeight t at) after)
-    (path-numbered (ltb (length t) (at + pathHeaderLength)) (eqb (pathLength t at) 0 || ltb maxPathLength (pathLength t at)) (ltb (length t) (pathEnd t at))
-    (eqb (pathWeight t at) 0 || ltb maxWeight (copies + pathWeight t at)) (not (allBelow (vertexCount s) (pathVertices t at) && isPath (graphOf s) (pathVertices t at)))
-    (listBefore before (pathVertices t at)))
-    (paths-numbered s t count (pathEnd t at) (pathVertices t at) (copies + pathWeight t at) after h)
+    or-else-numbered (pathFault s t at before copies) at (pathsVerdict s t count (pathEnd s t at) (pathVertices s t at) (copies + pathWeight t at) after)
+    (path-numbered (ltb (length t) (pathVerticesAt s at)) (eqb (pathLength s t at) 0 || ltb (maxPathLength s) (pathLength s t at)) (ltb (length t) (pathEnd s t at))
+    (eqb (pathWeight t at) 0 || ltb (maxWeight s) (copies + pathWeight t at)) (not (allBelow (vertexCount s) (pathVertices s t at) && isPath (graphOf s) (pathVertices s t at)))
+    (listBefore before (pathVertices s t at)))
+    (paths-numbered s t count (pathEnd s t at) (pathVertices s t at) (copies + pathWeight t at) after h)
 
 demands-numbered : (W : List Weighted) (k : ℕ) (more : List Ask) (after : Verdict) → Numbered after → Numbered (demandsVerdict W k more after)
 unfolding demandsVerdict
@@ -144,11 +161,11 @@ module _ (P : Prices) where
 answer-numbered : (s t : List ℕ) → Numbered (answerVerdict s t)
 unfolding answerVerdict
 answer-numbered s t =
-    let last = certificateVerdict whole (graphOf s) (coverOf (vertexCount s) t) (pos (statedPrice t)) (marksOf t) in
-    let walked = pathsVerdict s t (pathCount t) (firstPathAt (vertexCount s)) [] 0 last in
-    header-numbered s t (marksVerdict t (2 * vertexCount s) (inMarkAt 0) walked)
-    (marks-numbered t (2 * vertexCount s) (inMarkAt 0) walked
-    (paths-numbered s t (pathCount t) (firstPathAt (vertexCount s)) [] 0 last (certificate-numbered whole (graphOf s) (coverOf (vertexCount s) t) (pos (statedPrice t)) (marksOf t))))
+    let last = certificateVerdict whole (graphOf s) (coverOf s t) (pos (statedPrice s t)) (answerMarks s t) in
+    let walked = pathsVerdict s t (pathCount t) (firstPathAt s) [] 0 last in
+    header-numbered s t (marksVerdict t (markParts s) (inMarkAt s 0) walked)
+    (marks-numbered t (markParts s) (inMarkAt s 0) walked
+    (paths-numbered s t (pathCount t) (firstPathAt s) [] 0 last (certificate-numbered whole (graphOf s) (coverOf s t) (pos (statedPrice s t)) (answerMarks s t))))
 
 -- the check's number is one of 0 to 7 and 11 to 22
 pub check-number : (s t : List ℕ) → (checkVerdict s t .number ≤ 7) ⊎ ((11 ≤ checkVerdict s t .number) × (checkVerdict s t .number ≤ 22))

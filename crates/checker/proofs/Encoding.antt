@@ -1,6 +1,6 @@
 -- Reading back what `encodeAnswer` writes gives the same paths, price and marks; its length is stated rightly, and within the limits each entry is a byte.
 use Prim.Native.Nat.{ℕ, zero, suc, _+_, _*_, _-_, _/_, _%_, _≤_, _<_}
-use native.Mathlib.Nat.{add-assoc}
+use native.Mathlib.Nat.{add-assoc, mul-suc, mul-le-mul-left}
 use native.Mathlib.Omega.{arith}
 use mathlib.Core.Path.{_≡_, refl, sym, ap, ap₂, _∙_}
 use mathlib.Core.List.{List, [], _∷_, _++_, append-assoc}
@@ -14,10 +14,13 @@ use Rattle.mathematics.specs.Lists.{All}
 use Rattle.mathematics.specs.Cover.{Weighted}
 use Rattle.mathematics.specs.Bound.{Marks}
 use Rattle.mathematics.proofs.Basics.{all-append}
+use Rattle.forms.specs.AnswerForm.{answerLengthWord, answerVersion, pathCount, statedPrice, markPartLength, inMarkAt, outMarkAt, signed32, answerMarks, firstPathAt, pathHeaderLength, pathWeight, pathLength, pathVerticesAt, pathVertices, pathEnd, pathsFrom, coverOf}
 use Rattle.forms.specs.Bytes.{byte, be16, be32, be64, part}
-use Rattle.forms.specs.Limits.{maxPaths, markLimit, maxVertices, longestAnswer}
-use Rattle.forms.specs.AnswerForm.{answerLengthWord, answerVersion, pathCount, statedPrice, inMarkAt, outMarkAt, signed32, marksOf, firstPathAt, pathWeight, pathLength, pathVertices, pathEnd, pathsFrom, coverOf}
-use Rattle.checker.specs.Encode.{bytes16, bytes32, bytes64, word32, markBytes, pathRecord, pathBytes, afterLength, encodeAnswer}
+use Rattle.forms.specs.GraphForm.{vertexCount}
+use Rattle.forms.specs.Layout.{maxVertices, maxPaths, countBytes, countAt, answerVersionOf, maxPathLength, longestAnswer}
+use Rattle.forms.specs.Limits.{markLimit}
+use Rattle.forms.proofs.LayoutLaws.{count-bytes-is, count-at-is, price-parts-is, answer-version-is, longest-answer-is, vertices-room, paths-room, path-length-limit, mark-grows, mark-sum, answer-longest}
+use Rattle.checker.specs.Encode.{bytes16, bytes32, bytes64, countIn, word32, markBytes, pathRecord, pathBytes, afterLength, encodeAnswer}
 use Rattle.checker.specs.Accepted.{InRange}
 use Rattle.checker.specs.Acceptable.{Bytes, Holdable}
 
@@ -79,122 +82,168 @@ pub marks-length : (m : Marks ℤ) (count v : ℕ) → length (markBytes m count
 marks-length m zero v = refl
 marks-length m (suc count) v = let e = marks-length m count (suc v) in omega arith
 
+-- a count of vertices stands in as many bytes as the version gives it, and reads back
+module _ (s : List ℕ) where
+  pub count-length : (x : ℕ) → length (countIn s x) ≡ countBytes s
+  unfolding countIn
+  count-length x = count-bytes-is s
+
+  pub count-back : (p q : List ℕ) (x : ℕ) → countAt s (p ++ (countIn s x ++ q)) (length p) ≡ x
+  unfolding countIn
+  count-back p q x =
+      sym (count-at-is s (p ++ (x ∷ q)) (length p))
+      ∙ (ap (byte (p ++ (x ∷ q))) (let z : length p ≡ length p + 0 = omega arith in z) ∙ byte-behind p (x ∷ q) 0)
+
 -- a path record that stands behind p, read back field by field
-module _ (w : Weighted) (W : List Weighted) (p : List ℕ) (at : ℕ) (e : length p ≡ at) where
-  at-front : (k : ℕ) → at + k ≡ length p + k
-  at-front k = ap (λ a. a + k) (sym e)
+module _ (s : List ℕ) (w : Weighted) (W : List Weighted) (p : List ℕ) (at : ℕ) (e : length p ≡ at) where
+  abbrev count : List ℕ
+  count = countIn s (length (w .path))
 
-  pub record-weight : pathWeight (p ++ pathBytes (w ∷ W)) at ≡ w .weight
+  -- its weight and count stand behind p, its vertices behind them
+  to-count : p ++ pathBytes s (w ∷ W) ≡ (p ++ bytes32 (w .weight)) ++ (count ++ (w .path ++ pathBytes s W))
+  to-count =
+      ap (λ q. p ++ (bytes32 (w .weight) ++ q)) (append-assoc count (w .path) (pathBytes s W))
+      ∙ sym (append-assoc p (bytes32 (w .weight)) (count ++ (w .path ++ pathBytes s W)))
+
+  to-vertices : p ++ pathBytes s (w ∷ W) ≡ ((p ++ bytes32 (w .weight)) ++ count) ++ (w .path ++ pathBytes s W)
+  to-vertices = to-count ∙ sym (append-assoc (p ++ bytes32 (w .weight)) count (w .path ++ pathBytes s W))
+
+  count-place : length (p ++ bytes32 (w .weight)) ≡ at + 4
+  count-place = omega (arith, e, length-append p (bytes32 (w .weight)))
+
+  vertices-place : length ((p ++ bytes32 (w .weight)) ++ count) ≡ pathVerticesAt s at
+  vertices-place = omega (arith, count-place, length-append (p ++ bytes32 (w .weight)) count, count-length s (length (w .path)))
+
+  pub record-weight : pathWeight (p ++ pathBytes s (w ∷ W)) at ≡ w .weight
   record-weight =
-      ap (be32 (p ++ pathBytes (w ∷ W))) (let z : at ≡ length p + 0 = omega arith in z) ∙
-      (be32-behind p (pathBytes (w ∷ W)) 0 ∙ be32-bytes32 (w .weight) _)
+      ap (be32 (p ++ pathBytes s (w ∷ W))) (let z : at ≡ length p + 0 = omega arith in z) ∙
+      (be32-behind p (pathBytes s (w ∷ W)) 0 ∙ be32-bytes32 (w .weight) _)
 
-  pub record-length : pathLength (p ++ pathBytes (w ∷ W)) at ≡ length (w .path)
-  record-length = ap (byte (p ++ pathBytes (w ∷ W))) (at-front 4) ∙ byte-behind p (pathBytes (w ∷ W)) 4
+  pub record-length : pathLength s (p ++ pathBytes s (w ∷ W)) at ≡ length (w .path)
+  record-length = ap₂ (countAt s) to-count (sym count-place) ∙ count-back s (p ++ bytes32 (w .weight)) (w .path ++ pathBytes s W) (length (w .path))
 
-  pub record-path : pathVertices (p ++ pathBytes (w ∷ W)) at ≡ w .path
+  pub record-path : pathVertices s (p ++ pathBytes s (w ∷ W)) at ≡ w .path
   unfolding part
   record-path =
-      ap₂ (λ c k. take c (drop k (p ++ pathBytes (w ∷ W)))) record-length (at-front 5) ∙
-      (ap (take (length (w .path))) (drop-append-add p (pathBytes (w ∷ W)) 5) ∙ take-append-seam (w .path) (pathBytes W))
+      let front = (p ++ bytes32 (w .weight)) ++ count in
+      let place : pathVerticesAt s at ≡ length front + 0 = omega (arith, vertices-place) in
+      ap₂ (λ c u. take c (drop (pathVerticesAt s at) u)) record-length to-vertices ∙
+      (ap (λ k. take (length (w .path)) (drop k (front ++ (w .path ++ pathBytes s W)))) place ∙
+      (ap (take (length (w .path))) (drop-append-add front (w .path ++ pathBytes s W) 0) ∙ take-append-seam (w .path) (pathBytes s W)))
 
   -- what follows the record stands behind p and the record
-  pub record-end : length (p ++ pathRecord w) ≡ pathEnd (p ++ pathBytes (w ∷ W)) at
-  record-end = let l = length-append p (pathRecord w) in let c = record-length in omega arith
+  pub record-end : length (p ++ pathRecord s w) ≡ pathEnd s (p ++ pathBytes s (w ∷ W)) at
+  record-end = omega (arith, e, length-append p (pathRecord s w), length-append count (w .path), count-length s (length (w .path)), record-length)
 
-  pub record-split : p ++ pathBytes (w ∷ W) ≡ (p ++ pathRecord w) ++ pathBytes W
-  record-split = sym (append-assoc p (pathRecord w) (pathBytes W))
+  pub record-split : p ++ pathBytes s (w ∷ W) ≡ (p ++ pathRecord s w) ++ pathBytes s W
+  record-split = sym (append-assoc p (pathRecord s w) (pathBytes s W))
 
 -- the paths behind p read back
-paths-back : (W : List Weighted) (p : List ℕ) (at : ℕ) → length p ≡ at → pathsFrom (p ++ pathBytes W) (length W) at ≡ W
-paths-back [] p at e = refl
-paths-back (w ∷ W) p at e =
-    let end = pathEnd (p ++ pathBytes (w ∷ W)) at in
-    ap₂ {C = List Weighted} (λ x xs. x ∷ xs) (λ i. record { weight = record-weight w W p at e i; path = record-path w W p at e i })
-    (ap (λ u. pathsFrom u (length W) end) (record-split w W p at e) ∙ paths-back W (p ++ pathRecord w) end (record-end w W p at e))
+paths-back : (s : List ℕ) (W : List Weighted) (p : List ℕ) (at : ℕ) → length p ≡ at → pathsFrom s (p ++ pathBytes s W) (length W) at ≡ W
+paths-back s [] p at e = refl
+paths-back s (w ∷ W) p at e =
+    let end = pathEnd s (p ++ pathBytes s (w ∷ W)) at in
+    ap₂ {C = List Weighted} (λ x xs. x ∷ xs) (λ i. record { weight = record-weight s w W p at e i; path = record-path s w W p at e i })
+    (ap (λ u. pathsFrom s u (length W) end) (record-split s w W p at e) ∙ paths-back s W (p ++ pathRecord s w) end (record-end s w W p at e))
 
-module _ (n price : ℕ) (m : Marks ℤ) (W : List Weighted) where
-  -- the 15 bytes of the header
+module _ (s : List ℕ) (price : ℕ) (m : Marks ℤ) (W : List Weighted) where
+  -- the bytes of the header
   header-bytes : List ℕ
-  header-bytes = bytes32 (4 + length (afterLength n price m W)) ++ (1 ∷ (bytes16 (length W) ++ bytes64 price))
+  header-bytes = bytes32 (4 + length (afterLength s price m W)) ++ (answerVersionOf s ∷ (bytes16 (length W) ++ bytes64 price))
+
+  -- where the in-mark of a vertex stands, prices and marks being one number each
+  mark-place : (v : ℕ) → length header-bytes + 8 * v ≡ inMarkAt s v
+  unfolding header-bytes
+  mark-place v = mark-sum s v 1 markPartLength (price-parts-is s) (omega (arith, price-parts-is s))
 
   -- "the total length stands first and counts itself"
-  pub encoded-length-word : answerLengthWord (encodeAnswer n price m W) ≡ length (encodeAnswer n price m W)
+  pub encoded-length-word : answerLengthWord (encodeAnswer s price m W) ≡ length (encodeAnswer s price m W)
   unfolding encodeAnswer
   encoded-length-word =
-      be32-bytes32 (4 + length (afterLength n price m W)) (afterLength n price m W) ∙
-      sym (length-append (bytes32 (4 + length (afterLength n price m W))) (afterLength n price m W))
+      be32-bytes32 (4 + length (afterLength s price m W)) (afterLength s price m W) ∙
+      sym (length-append (bytes32 (4 + length (afterLength s price m W))) (afterLength s price m W))
 
-  pub encoded-version : answerVersion (encodeAnswer n price m W) ≡ 1
+  pub encoded-version : answerVersion (encodeAnswer s price m W) ≡ answerVersionOf s
   unfolding encodeAnswer
   encoded-version = refl
 
-  pub encoded-path-count : pathCount (encodeAnswer n price m W) ≡ length W
+  pub encoded-path-count : pathCount (encodeAnswer s price m W) ≡ length W
   unfolding encodeAnswer be16
   encoded-path-count = omega arith
 
-  pub encoded-price : statedPrice (encodeAnswer n price m W) ≡ price
+  pub encoded-price : statedPrice s (encodeAnswer s price m W) ≡ price
   unfolding encodeAnswer be64 be32
   encoded-price =
       let high = be32-bytes32 (price / 4_294_967_296) [] in
       let low = be32-bytes32 (price % 4_294_967_296) [] in
       ap₂ (λ a b. a * 4_294_967_296 + b) high low ∙ (let e : price / 4_294_967_296 * 4_294_967_296 + price % 4_294_967_296 ≡ price = omega arith in e)
 
-  pub encoded-length : length (encodeAnswer n price m W) ≡ firstPathAt n + length (pathBytes W)
-  unfolding encodeAnswer
-  encoded-length =
-      let e = length-append (markBytes m n 0) (pathBytes W) in
-      let l = marks-length m n 0 in
-      omega arith
-
   -- the path records stand behind header and marks
-  pub encoded-front : (p : List ℕ) × (length p ≡ firstPathAt n) × (encodeAnswer n price m W ≡ p ++ pathBytes W)
+  pub encoded-front : (p : List ℕ) × (length p ≡ firstPathAt s) × (encodeAnswer s price m W ≡ p ++ pathBytes s W)
   unfolding encodeAnswer header-bytes
   encoded-front = (
-    header-bytes ++ markBytes m n 0,
-    (let l = marks-length m n 0 in omega arith),
-    sym (append-assoc header-bytes (markBytes m n 0) (pathBytes W)),
+    header-bytes ++ markBytes m (vertexCount s) 0,
+    omega (arith, length-append header-bytes (markBytes m (vertexCount s) 0), marks-length m (vertexCount s) 0, mark-place (vertexCount s)),
+    sym (append-assoc header-bytes (markBytes m (vertexCount s) 0) (pathBytes s W)),
   )
 
+  pub encoded-length : length (encodeAnswer s price m W) ≡ firstPathAt s + length (pathBytes s W)
+  encoded-length =
+      let (p, l, e) = encoded-front in
+      ap length e ∙ (length-append p (pathBytes s W) ∙ ap (λ k. k + length (pathBytes s W)) l)
+
   -- the weighted paths read back
-  pub encoded-cover : coverOf n (encodeAnswer n price m W) ≡ W
+  pub encoded-cover : coverOf s (encodeAnswer s price m W) ≡ W
   unfolding coverOf
   encoded-cover =
       let (p, l, e) = encoded-front in
-      ap₂ (λ t c. pathsFrom t c (firstPathAt n)) e encoded-path-count ∙ paths-back W p (firstPathAt n) l
+      ap₂ (λ t c. pathsFrom s t c (firstPathAt s)) e encoded-path-count ∙ paths-back s W p (firstPathAt s) l
 
   -- and so does each mark of a vertex of the graph
-  pub encoded-into : (v : ℕ) → v < n → InRange (m .into v) → marksOf (encodeAnswer n price m W) .into v ≡ m .into v
-  unfolding encodeAnswer marksOf header-bytes
+  pub encoded-into : (v : ℕ) → v < vertexCount s → InRange (m .into v) → answerMarks s (encodeAnswer s price m W) .into v ≡ m .into v
+  unfolding encodeAnswer answerMarks header-bytes
   encoded-into v h r =
-      signed-at (encodeAnswer n price m W) (inMarkAt v) (m .into v)
-      (be32-behind header-bytes (markBytes m n 0 ++ pathBytes W) (8 * v) ∙
-      (in-word m n 0 v (pathBytes W) h ∙ ap (λ i. word32 (m .into i)) (let e : 0 + v ≡ v = omega arith in e))) r
+      signed-at (encodeAnswer s price m W) (inMarkAt s v) (m .into v)
+      (ap (be32 (encodeAnswer s price m W)) (sym (mark-place v)) ∙
+      (be32-behind header-bytes (markBytes m (vertexCount s) 0 ++ pathBytes s W) (8 * v) ∙
+      (in-word m (vertexCount s) 0 v (pathBytes s W) h ∙ ap (λ i. word32 (m .into i)) (let e : 0 + v ≡ v = omega arith in e)))) r
 
-  pub encoded-out : (v : ℕ) → v < n → InRange (m .out v) → marksOf (encodeAnswer n price m W) .out v ≡ m .out v
-  unfolding encodeAnswer marksOf header-bytes
+  pub encoded-out : (v : ℕ) → v < vertexCount s → InRange (m .out v) → answerMarks s (encodeAnswer s price m W) .out v ≡ m .out v
+  unfolding encodeAnswer answerMarks header-bytes
   encoded-out v h r =
-      signed-at (encodeAnswer n price m W) (outMarkAt v) (m .out v)
-      (ap (be32 (encodeAnswer n price m W)) (let e : 15 + 8 * v + 4 ≡ 15 + (8 * v + 4) = omega arith in e) ∙
-      (be32-behind header-bytes (markBytes m n 0 ++ pathBytes W) (8 * v + 4) ∙
-      (out-word m n 0 v (pathBytes W) h ∙ ap (λ i. word32 (m .out i)) (let e : 0 + v ≡ v = omega arith in e)))) r
+      let place : outMarkAt s v ≡ length header-bytes + (8 * v + 4) = omega (arith, mark-place v, price-parts-is s) in
+      signed-at (encodeAnswer s price m W) (outMarkAt s v) (m .out v)
+      (ap (be32 (encodeAnswer s price m W)) place ∙
+      (be32-behind header-bytes (markBytes m (vertexCount s) 0 ++ pathBytes s W) (8 * v + 4) ∙
+      (out-word m (vertexCount s) 0 v (pathBytes s W) h ∙ ap (λ i. word32 (m .out i)) (let e : 0 + v ≡ v = omega arith in e)))) r
 
 bytes32-are : (x : ℕ) → x < 4_294_967_296 → Bytes (bytes32 x)
 bytes32-are x h = (omega arith, (omega arith, (omega arith, (omega arith, tt))))
 
-paths-length : (W : List Weighted) → All Holdable W → length (pathBytes W) ≤ 69 * length W
-paths-length [] h = omega arith
-paths-length (w ∷ W) h =
-    let e = length-append (w .path) (pathBytes W) in
-    let l = paths-length W (h .1) in
-    let k : length (w .path) ≤ 64 = h .0 .few-vertices in
-    omega arith
+count-is-bytes : (s : List ℕ) (x : ℕ) → x ≤ maxPathLength s → Bytes (countIn s x)
+unfolding countIn
+count-is-bytes s x h = (omega (arith, path-length-limit s, vertices-room s), tt)
 
-paths-are-bytes : (W : List Weighted) → All Holdable W → Bytes (pathBytes W)
-paths-are-bytes [] h = tt
-paths-are-bytes (w ∷ W) h =
-    all-append (λ b. b < 256) (bytes32 (w .weight)) (length (w .path) ∷ (w .path ++ pathBytes W)) (bytes32-are (w .weight) (h .0 .low-weight))
-    (omega (arith, h .0 .few-vertices), all-append (λ b. b < 256) (w .path) (pathBytes W) (h .0 .low-vertices) (paths-are-bytes W (h .1)))
+paths-length : (s : List ℕ) (W : List Weighted) → All (Holdable s) W → length (pathBytes s W) ≤ (pathHeaderLength s + maxPathLength s) * length W
+paths-length s [] h = omega arith
+paths-length s (w ∷ W) h =
+    omega (
+      arith,
+      length-append (pathRecord s w) (pathBytes s W),
+      length-append (countIn s (length (w .path))) (w .path),
+      count-length s (length (w .path)),
+      h .0 .few-vertices,
+      paths-length s W (h .1),
+      mul-suc (pathHeaderLength s + maxPathLength s) (length W),
+    )
+
+paths-are-bytes : (s : List ℕ) (W : List Weighted) → All (Holdable s) W → Bytes (pathBytes s W)
+paths-are-bytes s [] h = tt
+paths-are-bytes s (w ∷ W) h =
+    all-append (λ b. b < 256) (pathRecord s w) (pathBytes s W)
+    (all-append (λ b. b < 256) (bytes32 (w .weight)) (countIn s (length (w .path)) ++ w .path) (bytes32-are (w .weight) (h .0 .low-weight))
+    (all-append (λ b. b < 256) (countIn s (length (w .path))) (w .path) (count-is-bytes s (length (w .path)) (h .0 .few-vertices)) (h .0 .low-vertices)))
+    (paths-are-bytes s W (h .1))
 
 marks-are-bytes : (m : Marks ℤ) (count k : ℕ) → ((v : ℕ) → v < k + count → InRange (m .into v) × InRange (m .out v)) → Bytes (markBytes m count k)
 marks-are-bytes m zero k h = tt
@@ -204,25 +253,33 @@ marks-are-bytes m (suc count) k h =
     (all-append (λ b. b < 256) (bytes32 (word32 (m .out k))) (markBytes m count (suc k)) (bytes32-are _ (word-low (m .out k) (r .1)))
     (marks-are-bytes m count (suc k) (λ v l. h v (omega arith))))
 
-module _ (n price : ℕ) (m : Marks ℤ) (W : List Weighted) (few : n ≤ maxVertices) (paths : length W ≤ maxPaths) (holdable : All Holdable W) where
+module _ (s : List ℕ) (price : ℕ) (m : Marks ℤ) (W : List Weighted) (few : vertexCount s ≤ maxVertices s) (paths : length W ≤ maxPaths s) (holdable : All (Holdable s) W) where
   -- "The longest is 32,543 bytes."
-  pub encoded-fits : length (encodeAnswer n price m W) ≤ longestAnswer
-  encoded-fits = let l = encoded-length n price m W in let k = paths-length W holdable in omega arith
+  pub encoded-fits : length (encodeAnswer s price m W) ≤ longestAnswer s
+  encoded-fits =
+      omega (
+        arith,
+        encoded-length s price m W,
+        paths-length s W holdable,
+        mul-le-mul-left (pathHeaderLength s + maxPathLength s) paths,
+        mark-grows s (vertexCount s) (maxVertices s) few,
+        answer-longest s,
+      )
 
   -- a byte string: each entry is below 256
-  pub encoded-bytes : price < 18_446_744_073_709_551_616 → ((v : ℕ) → v < n → InRange (m .into v) × InRange (m .out v)) → Bytes (encodeAnswer n price m W)
+  pub encoded-bytes : price < 18_446_744_073_709_551_616 → ((v : ℕ) → v < vertexCount s → InRange (m .into v) × InRange (m .out v)) → Bytes (encodeAnswer s price m W)
   unfolding encodeAnswer
   encoded-bytes low range =
-      let l : 4 + length (afterLength n price m W) ≤ 32_543 = omega (arith, encoded-fits) in
-      all-append (λ b. b < 256) (bytes32 (4 + length (afterLength n price m W))) (afterLength n price m W) (bytes32-are _ (omega arith)) (
-        omega arith,
+      let l : 4 + length (afterLength s price m W) ≤ longestAnswer s = omega (arith, encoded-fits) in
+      all-append (λ b. b < 256) (bytes32 (4 + length (afterLength s price m W))) (afterLength s price m W) (bytes32-are _ (omega (arith, longest-answer-is s))) (
+        omega (arith, answer-version-is s),
         (
-          omega arith,
+          omega (arith, paths-room s),
           (
             omega arith,
-            all-append (λ b. b < 256) (bytes64 price) (markBytes m n 0 ++ pathBytes W)
+            all-append (λ b. b < 256) (bytes64 price) (markBytes m (vertexCount s) 0 ++ pathBytes s W)
                 (all-append (λ b. b < 256) (bytes32 (price / 4_294_967_296)) (bytes32 (price % 4_294_967_296)) (bytes32-are _ (omega arith)) (bytes32-are _ (omega arith)))
-                (all-append (λ b. b < 256) (markBytes m n 0) (pathBytes W) (marks-are-bytes m n 0 (λ v h. range v (omega arith))) (paths-are-bytes W holdable)),
+                (all-append (λ b. b < 256) (markBytes m (vertexCount s) 0) (pathBytes s W) (marks-are-bytes m (vertexCount s) 0 (λ v h. range v (omega arith))) (paths-are-bytes s W holdable)),
           ),
         ),
       )

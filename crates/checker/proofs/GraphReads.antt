@@ -6,19 +6,21 @@ use mathlib.Core.Path.{_≡_, refl, sym, ap, ap₂, _∙_}
 use mathlib.Core.List.{List}
 use mathlib.Core.Bool.{Bool, true, false, cond, not, _&&_, _||_}
 use mathlib.Core.Logic.{_↔_}
-use lib.Dec.{ltb, leb, eqb, lit≤}
+use lib.Dec.{ltb, eqb, lit≤}
 use lib.ListN.{length}
 use borrow.Author.Tests.{ltb-false, le-ltb, eq-eqb, eqb-true, eqb-false}
 use Rattle.forms.specs.declared.Verdict.{Verdict}
-use Rattle.forms.specs.Limits.{maxVertices, maxArcs, maxReads, maxOpening, maxCost, maxDemand, minReadLength, maxReadLength}
-use Rattle.forms.specs.GraphForm.{headerLength, lengthWord, version, vertexCount, arcCount, readCount, openingPrice, vertexLength, vertexAt, flags, vertexDemand, arcLength, arcAt, arcTail, arcHead, arcCost, arcDemand, firstReadAt, readLength, readVertices, readEnd}
-use Rattle.forms.specs.GraphOf.{arcsOf}
 use Rattle.forms.specs.GraphFaults.{refusal, nothingRefused, then, headerVerdict, firstFault, vertexFault, ascends, arcFault, verticesVerdict, arcsVerdict, walks, readFault, readsVerdict, graphVerdict}
+use Rattle.forms.specs.GraphForm.{headerLength, lengthWord, vertexCountAt, vertexCount, arcCountAt, arcCount, readCountAt, readCount, openingPriceAt, openingPrice, vertexAt, flags, vertexDemand, arcLength, arcAt, arcTail, arcHead, arcCost, arcDemand, firstReadAt, readLength, readVerticesAt, readVertices, readEnd}
+use Rattle.forms.specs.GraphOf.{arcsOf}
 use Rattle.forms.specs.GraphReads.{VertexRight, ReadRight, ReadsRight, ArcsRight, Reads}
+use Rattle.forms.specs.Layout.{versionAt, version, newest, maxVertices, maxArcs, maxReads, maxReadLength, maxFlag, vertexLength}
+use Rattle.forms.specs.Limits.{maxOpening, maxCost, maxDemand, minReadLength}
 use Rattle.checker.proofs.HeaderLaws.{header-right}
 use Rattle.checker.proofs.RecordLaws.{vertex-right, arc-last}
 use Rattle.checker.proofs.ReadLaws.{read-right}
 use Rattle.forms.proofs.RightLaws.{header-holds, vertex-holds, arcs-hold, read-holds, next-follows, before-follows, all-below, each-right, all-right}
+use Rattle.forms.proofs.LayoutLaws.{vertex-next}
 use Rattle.forms.proofs.ThenLaws.{then-passed}
 use Rattle.mathematics.proofs.Basics.{is-true}
 
@@ -50,7 +52,10 @@ records-whole : (s : List ℕ) → ArcsRight s → ((v : ℕ) → v < vertexCoun
 records-whole s right vertices = by (arcCount s) refl
   where
     by : (m : ℕ) → arcCount s ≡ m → firstReadAt s ≤ length s
-    by zero e = omega (arith, vertices (vertexCount s - 1) (omega (arith, right .header .some-vertex)) .whole, right .header .some-vertex)
+    by zero e =
+        let last = vertexCount s - 1 in
+        let after : suc last ≡ vertexCount s = omega (arith, right .header .some-vertex) in
+        omega (arith, vertices last (omega arith) .whole, vertex-next s last, ap (vertexAt s) after)
     by (suc a) e = omega (arith, right .each a (omega arith) .whole)
 
 -- Document 01, the table's numbers 1 to 7: "Given exactly when". Nothing is refused exactly where the form reads.
@@ -90,7 +95,7 @@ unfolding graphVerdict
 nothing-of-reads s r =
     let h = r .arcs .header in
     then-passed
-    (header-right s (h .long) (h .counted) (h .first-version) (λ z. omega (arith, h .some-vertex)) (h .few-vertices) (h .few-arcs) (h .few-reads) (h .low-opening))
+    (header-right s (h .long) (h .counted) (λ z. omega (arith, h .known-version)) (h .known-version .1) (λ z. omega (arith, h .some-vertex)) (h .few-vertices) (h .few-arcs) (h .few-reads) (h .low-opening))
     refl
     (then-passed (all-right (vertexFault s) (vertexAt s) (vertexCount s) 0 (λ k a b. vertex-passes k (omega arith))) refl
     (then-passed (all-right (λ a. arcFault s (arcAt s a)) (arcAt s) (arcCount s) 0 (λ k a b. arc-passes s (r .arcs) k (omega arith))) refl
@@ -119,8 +124,8 @@ low false x y h k = k
 low-vertex : (s : List ℕ) (v : ℕ) → vertexFault s v ≤ 7
 unfolding vertexFault
 low-vertex s v =
-    lower (ltb (length s) (vertexAt s v + vertexLength)) 5 _ (lit≤ tt)
-    (lower (ltb 3 (flags s v) || ltb maxDemand (vertexDemand s v)) 4 0 (lit≤ tt) (lit≤ tt))
+    lower (ltb (length s) (vertexAt s v + vertexLength s)) 5 _ (lit≤ tt)
+    (lower (ltb (maxFlag s) (flags s v) || ltb maxDemand (vertexDemand s v)) 4 0 (lit≤ tt) (lit≤ tt))
 
 low-arc : (s : List ℕ) (at : ℕ) → arcFault s at ≤ 7
 unfolding arcFault
@@ -132,19 +137,19 @@ low-arc s at =
 low-read : (s : List ℕ) (at : ℕ) → readFault s at ≤ 7
 unfolding readFault
 low-read s at =
-    lower (leb (length s) at) 5 _ (lit≤ tt)
-    (lower (ltb (readLength s at) minReadLength || ltb maxReadLength (readLength s at)) 7 _ (lit≤ tt)
+    lower (ltb (length s) (readVerticesAt s at)) 5 _ (lit≤ tt)
+    (lower (ltb (readLength s at) minReadLength || ltb (maxReadLength s) (readLength s at)) 7 _ (lit≤ tt)
     (lower (ltb (length s) (readEnd s at)) 5 _ (lit≤ tt) (lower (walks (vertexCount s) (arcsOf s) (readVertices s at)) 0 7 (lit≤ tt) (lit≤ tt))))
 
 low-header : (s : List ℕ) → headerVerdict s .number ≤ 7
 unfolding headerVerdict
 low-header s =
-    low (ltb (length s) headerLength || not (eqb (lengthWord s) (length s))) (refusal 1 0) _ (lit≤ tt)
-    (low (not (eqb (version s) 1)) (refusal 2 4) _ (lit≤ tt)
-    (low (eqb (vertexCount s) 0 || ltb maxVertices (vertexCount s)) (refusal 3 5) _ (lit≤ tt)
-    (low (ltb maxArcs (arcCount s)) (refusal 3 6) _ (lit≤ tt)
-    (low (ltb maxReads (readCount s)) (refusal 3 8) _ (lit≤ tt)
-    (low (ltb maxOpening (openingPrice s)) (refusal 4 9) nothingRefused (lit≤ tt) (lit≤ tt))))))
+    low (ltb (length s) (headerLength s) || not (eqb (lengthWord s) (length s))) (refusal 1 0) _ (lit≤ tt)
+    (low (eqb (version s) 0 || ltb newest (version s)) (refusal 2 versionAt) _ (lit≤ tt)
+    (low (eqb (vertexCount s) 0 || ltb (maxVertices s) (vertexCount s)) (refusal 3 vertexCountAt) _ (lit≤ tt)
+    (low (ltb (maxArcs s) (arcCount s)) (refusal 3 (arcCountAt s)) _ (lit≤ tt)
+    (low (ltb (maxReads s) (readCount s)) (refusal 3 (readCountAt s)) _ (lit≤ tt)
+    (low (ltb maxOpening (openingPrice s)) (refusal 4 (openingPriceAt s)) nothingRefused (lit≤ tt) (lit≤ tt))))))
 
 low-records : (fault place : ℕ → ℕ) → ((k : ℕ) → fault k ≤ 7) → (n i : ℕ) → firstFault fault place n i .number ≤ 7
 unfolding firstFault

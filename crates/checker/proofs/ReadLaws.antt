@@ -6,38 +6,39 @@ use mathlib.Core.Path.{_≡_, sym, ap, _∙_}
 use mathlib.Core.List.{List}
 use mathlib.Core.Bool.{Bool, true, false, cond}
 use lib.ListN.{length}
-use borrow.Author.Tests.{lt-ltb, le-ltb, le-leb, lt-leb, eq-eqb, ne-eqb}
+use borrow.Author.Tests.{lt-ltb, le-ltb, eq-eqb, ne-eqb}
 use Rattle.forms.specs.Bytes.{part}
-use Rattle.forms.specs.Limits.{minReadLength, maxReadLength}
-use Rattle.forms.specs.GraphForm.{vertexCount, readLength, readEnd}
-use Rattle.forms.specs.GraphOf.{arcsOf}
 use Rattle.forms.specs.GraphFaults.{walks, readFault, readsVerdict, refusal, nothingRefused}
+use Rattle.forms.specs.GraphForm.{vertexCount, readLength, readVerticesAt, readEnd}
+use Rattle.forms.specs.GraphOf.{arcsOf}
+use Rattle.forms.specs.Layout.{maxReadLength}
+use Rattle.forms.specs.Limits.{minReadLength}
 
 module _ (s : List ℕ) (at : ℕ) where
-  pub read-missing : length s ≤ at → 5 ≡ readFault s at
+  pub read-missing : length s < readVerticesAt s at → 5 ≡ readFault s at
   unfolding readFault
-  read-missing h = simp (le-leb _ _ h)
+  read-missing h = simp (lt-ltb _ _ h)
 
-  module _ (begins : at < length s) where
+  module _ (begins : readVerticesAt s at ≤ length s) where
     pub read-few : readLength s at < minReadLength → 7 ≡ readFault s at
     unfolding readFault
-    read-few h = simp (lt-leb _ _ begins, lt-ltb _ _ h)
+    read-few h = simp (le-ltb _ _ begins, lt-ltb _ _ h)
 
     module _ (not-few : minReadLength ≤ readLength s at) where
-      pub read-many : maxReadLength < readLength s at → 7 ≡ readFault s at
+      pub read-many : maxReadLength s < readLength s at → 7 ≡ readFault s at
       unfolding readFault
-      read-many h = simp (lt-leb _ _ begins, le-ltb _ _ not-few, lt-ltb _ _ h)
+      read-many h = simp (le-ltb _ _ begins, le-ltb _ _ not-few, lt-ltb _ _ h)
 
-      module _ (not-many : readLength s at ≤ maxReadLength) where
+      module _ (not-many : readLength s at ≤ maxReadLength s) where
         pub read-short : length s < readEnd s at → 5 ≡ readFault s at
         unfolding readFault
-        read-short h = simp (lt-leb _ _ begins, le-ltb _ _ not-few, le-ltb _ _ not-many, lt-ltb _ _ h)
+        read-short h = simp (le-ltb _ _ begins, le-ltb _ _ not-few, le-ltb _ _ not-many, lt-ltb _ _ h)
 
-        module _ (whole : readEnd s at ≤ length s) {count from : ℕ} (read : count ≡ readLength s at) (stands : from ≡ at + 1) {w : Bool} (walked : w ≡ walks (vertexCount s) (arcsOf s) (part s from count)) where
+        module _ (whole : readEnd s at ≤ length s) {count from : ℕ} (read : count ≡ readLength s at) (stands : from ≡ readVerticesAt s at) {w : Bool} (walked : w ≡ walks (vertexCount s) (arcsOf s) (part s from count)) where
           last : readFault s at ≡ cond w 0 7
           unfolding readFault
           last =
-              simp (lt-leb _ _ begins, le-ltb _ _ not-few, le-ltb _ _ not-many, le-ltb _ _ whole)
+              simp (le-ltb _ _ begins, le-ltb _ _ not-few, le-ltb _ _ not-many, le-ltb _ _ whole)
               (ap (λ b. cond b 0 7) (sym (rw (read, stands) at walked)))
 
           pub read-broken : w ≡ false → 7 ≡ readFault s at

@@ -7,26 +7,32 @@ use mathlib.Core.Bool.{Bool, true, false, cond, _&&_, _||_}
 use lib.ListN.{length}
 use lib.Dec.{ltb, eqb}
 use borrow.Author.Tests.{lt-ltb, le-ltb, eq-eqb, ne-eqb, ltb-false, eqb-true}
-use Rattle.forms.specs.Limits.{maxDemand, maxCost}
-use Rattle.forms.specs.GraphForm.{vertexLength, vertexAt, flags, vertexDemand, arcLength, arcAt, arcCost, arcDemand, arcTail, arcHead, vertexCount}
 use Rattle.forms.specs.GraphFaults.{vertexFault, ascends, arcFault}
+use Rattle.forms.specs.GraphForm.{vertexAt, flags, vertexDemand, arcLength, firstArcAt, arcAt, arcCost, arcDemand, arcTail, arcHead, vertexCount}
+use Rattle.forms.specs.Layout.{maxFlag, vertexLength}
+use Rattle.forms.specs.Limits.{maxDemand, maxCost, roomVertices, roomArcs}
+use Rattle.forms.proofs.LayoutLaws.{vertex-range}
 
 module _ (s : List ℕ) (v : ℕ) where
-  pub vertex-short : length s < vertexAt s v + vertexLength → 5 ≡ vertexFault s v
+  pub vertex-short : length s < vertexAt s v + vertexLength s → 5 ≡ vertexFault s v
   unfolding vertexFault
   vertex-short h = simp (lt-ltb _ _ h)
 
-  pub vertex-flag : vertexAt s v + vertexLength ≤ length s → 3 < flags s v → 4 ≡ vertexFault s v
+  pub vertex-flag : vertexAt s v + vertexLength s ≤ length s → maxFlag s < flags s v → 4 ≡ vertexFault s v
   unfolding vertexFault
   vertex-flag h f = simp (le-ltb _ _ h, lt-ltb _ _ f)
 
-  pub vertex-demand : vertexAt s v + vertexLength ≤ length s → flags s v ≤ 3 → maxDemand < vertexDemand s v → 4 ≡ vertexFault s v
+  pub vertex-demand : vertexAt s v + vertexLength s ≤ length s → flags s v ≤ maxFlag s → maxDemand < vertexDemand s v → 4 ≡ vertexFault s v
   unfolding vertexFault
   vertex-demand h f d = simp (le-ltb _ _ h, le-ltb _ _ f, lt-ltb _ _ d)
 
-  pub vertex-right : vertexAt s v + vertexLength ≤ length s → flags s v ≤ 3 → vertexDemand s v ≤ maxDemand → 0 ≡ vertexFault s v
+  pub vertex-right : vertexAt s v + vertexLength s ≤ length s → flags s v ≤ maxFlag s → vertexDemand s v ≤ maxDemand → 0 ≡ vertexFault s v
   unfolding vertexFault
   vertex-right h f d = simp (le-ltb _ _ h, le-ltb _ _ f, le-ltb _ _ d)
+
+-- where the records of arcs stand is no matter of overflow
+pub arc-place : (s : List ℕ) (a : ℕ) → vertexCount s ≤ roomVertices → a ≤ roomArcs → arcAt s a + 2 < 18446744073709551616
+arc-place s a few h = omega (arith, vertex-range s (vertexCount s) (firstArcAt s) refl (omega arith))
 
 -- Tail and head of arc a as one number: an arc comes after another exactly where its number is higher.
 abbrev endsOf : List ℕ → ℕ → ℕ

@@ -20,13 +20,14 @@ use Rattle.mathematics.specs.Range.{OneOf}
 use Rattle.mathematics.specs.Reach.{itemList, itemLies, askLies, fromStart, toEnd}
 use Rattle.mathematics.proofs.Basics.{all-among, all-weaken}
 use Rattle.mathematics.proofs.Existence.{cover-shows-coverable, asks-linked, ask-lies}
-use Rattle.forms.specs.Bytes.{be16, be32, be64, part}
-use Rattle.forms.specs.GraphForm.{vertexCount}
-use Rattle.forms.specs.GraphOf.{graphOf}
-use Rattle.forms.specs.GraphFaults.{refusal, nothingRefused, then, firstFault, headerVerdict, vertexFault, arcFault, walks, readFault, readsVerdict, graphVerdict}
-use Rattle.forms.specs.BuildFaults.{roomAsked, noAsk, asksLieVerdict, readsLieVerdict, coverVerdict, buildVerdict}
-use Rattle.forms.specs.AnswerForm.{statedPrice, signed32, marksOf, coverOf}
 use Rattle.forms.specs.AnswerFaults.{answerHeaderVerdict, markFault, marksVerdict, pathFault, pathsVerdict}
+use Rattle.forms.specs.AnswerForm.{statedPrice, signed32, answerMarks, coverOf, inMarkAt, markParts}
+use Rattle.forms.specs.BuildFaults.{roomAsked, noAsk, asksLieVerdict, readsLieVerdict, coverVerdict, buildVerdict}
+use Rattle.forms.specs.Bytes.{be16, be32, be64, part}
+use Rattle.forms.specs.GraphFaults.{refusal, nothingRefused, then, firstFault, headerVerdict, vertexFault, arcFault, walks, readFault, readsVerdict, graphVerdict}
+use Rattle.forms.specs.GraphForm.{vertexAt}
+use Rattle.forms.specs.GraphOf.{graphOf}
+use Rattle.forms.specs.Layout.{maxVertices, maxArcs, maxReads, maxReadLength, maxPaths, maxWeight, countBytes, countAt, maxFlag, vertexLength, answerVersionOf, priceParts, maxPathLength, longestAnswer}
 use Rattle.checker.specs.Check.{demandsVerdict, readsMetVerdict, vertexSlacksVerdict, arcSlacksVerdict, certificateVerdict, answerVerdict, checkVerdict}
 use Rattle.checker.specs.Rows.{Row, priced, refused, shut, RowHolds, rows}
 use Rattle.checker.proofs.GraphReads.{number-zero-iff-reads}
@@ -35,15 +36,15 @@ use Rattle.checker.proofs.Soundness.{accepted-is-lowest}
 
 -- what of a row is found by computing
 abbrev Computes : Row → Type 0
-Computes (priced s t W p) = (checkVerdict s t ≡ nothingRefused) × (coverOf (vertexCount s) t ≡ W) × (statedPrice t ≡ p)
+Computes (priced s t W p) = (checkVerdict s t ≡ nothingRefused) × (coverOf s t ≡ W) × (statedPrice s t ≡ p)
 Computes (refused s t number place) = checkVerdict s t ≡ refusal number place
 Computes (shut s item) =
     (graphVerdict s .number ≡ 0) × T (ltb item (length (asks (graphOf s)))) ×
     All (λ a. T (askLies (graphOf s) a)) (take item (asks (graphOf s))) × T (not (askLies (graphOf s) (getD (asks (graphOf s)) item noAsk))) ×
-    (buildVerdict s roomAsked ≡ refusal 8 item)
+    (buildVerdict s (roomAsked s) ≡ refusal 8 item)
 
 rows-compute : All Computes rows
-unfolding rows prepare overlap longest joinAt bound be16 be32 be64 part graphOf then firstFault headerVerdict vertexFault arcFault walks readFault readsVerdict graphVerdict signed32 marksOf coverOf answerHeaderVerdict markFault marksVerdict pathFault pathsVerdict demandsVerdict readsMetVerdict vertexSlacksVerdict arcSlacksVerdict certificateVerdict answerVerdict checkVerdict fromStart toEnd asksLieVerdict readsLieVerdict coverVerdict buildVerdict
+unfolding rows maxVertices maxArcs maxReads maxReadLength maxPaths maxWeight countBytes countAt maxFlag vertexLength answerVersionOf priceParts maxPathLength longestAnswer vertexAt inMarkAt markParts prepare overlap longest joinAt bound be16 be32 be64 part graphOf then firstFault headerVerdict vertexFault arcFault walks readFault readsVerdict graphVerdict signed32 answerMarks coverOf answerHeaderVerdict markFault marksVerdict pathFault pathsVerdict demandsVerdict readsMetVerdict vertexSlacksVerdict arcSlacksVerdict certificateVerdict answerVerdict checkVerdict fromStart toEnd asksLieVerdict readsLieVerdict coverVerdict buildVerdict
 rows-compute = (
   (refl, refl, refl),
   (

@@ -9,12 +9,11 @@ use Rattle.mathematics.specs.Price.{whole}
 use Rattle.mathematics.specs.Lists.{All}
 use Rattle.mathematics.specs.Cover.{Weighted, price}
 use Rattle.mathematics.specs.Bound.{Marks}
-use Rattle.forms.specs.Limits.{maxPathLength, longestAnswer}
-use Rattle.forms.specs.GraphForm.{vertexCount}
-use Rattle.forms.specs.GraphOf.{graphOf}
-use Rattle.forms.specs.GraphFaults.{nothingRefused}
-use Rattle.forms.specs.AnswerForm.{coverOf}
 use Rattle.forms.specs.AnswerFaults.{listBefore}
+use Rattle.forms.specs.AnswerForm.{coverOf}
+use Rattle.forms.specs.GraphFaults.{nothingRefused}
+use Rattle.forms.specs.GraphOf.{graphOf}
+use Rattle.forms.specs.Layout.{maxPathLength, longestAnswer}
 use Rattle.checker.specs.Check.{checkVerdict}
 use Rattle.checker.specs.Encode.{encodeAnswer}
 use Rattle.checker.specs.Accepted.{InRange}
@@ -29,9 +28,9 @@ abbrev pub Bytes : List ℕ → Type 0
 Bytes t = All (λ b. b < 256) t
 
 -- a weighted path that the fields of a path record can hold: "weight (4), vertex count 1..64 (1), vertices (1 each)"
-pub record Holdable (w : Weighted) : Type 0 where
+pub record Holdable (s : List ℕ) (w : Weighted) : Type 0 where
   pub low-weight : w .weight < 4_294_967_296
-  pub few-vertices : length (w .path) ≤ maxPathLength
+  pub few-vertices : length (w .path) ≤ maxPathLength s
   pub low-vertices : All (λ v. v < 256) (w .path)
 
 -- the marks of the graph's vertices are in range
@@ -44,7 +43,7 @@ pub record Acceptable (s : List ℕ) (W : List Weighted) : Type 0 where
   pub marks-fit : MarksFit s marks
   pub stated : ℕ
   pub price-stated : price whole (graphOf s) W ≡ pos stated
-  pub accepted : checkVerdict s (encodeAnswer (vertexCount s) stated marks W) ≡ nothingRefused
-  pub gives : coverOf (vertexCount s) (encodeAnswer (vertexCount s) stated marks W) ≡ W
-  pub bytes : Bytes (encodeAnswer (vertexCount s) stated marks W)
-  pub fits : length (encodeAnswer (vertexCount s) stated marks W) ≤ longestAnswer
+  pub accepted : checkVerdict s (encodeAnswer s stated marks W) ≡ nothingRefused
+  pub gives : coverOf s (encodeAnswer s stated marks W) ≡ W
+  pub bytes : Bytes (encodeAnswer s stated marks W)
+  pub fits : length (encodeAnswer s stated marks W) ≤ longestAnswer s

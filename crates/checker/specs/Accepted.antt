@@ -12,20 +12,21 @@ use Rattle.mathematics.specs.Lists.{All, someHolds}
 use Rattle.mathematics.specs.Graph.{Graph, isPath}
 use Rattle.mathematics.specs.Cover.{Weighted, asks, total, paths, price}
 use Rattle.mathematics.specs.Bound.{Marks, SlacksHold, bound}
-use Rattle.forms.specs.Limits.{maxPaths, maxWeight, markLimit, maxPathLength}
+use Rattle.forms.specs.AnswerFaults.{listBefore}
+use Rattle.forms.specs.AnswerForm.{answerLengthWord, answerVersion, pathCount, statedPrice, markPartLength, inMarkAt, signed32, answerMarks, firstPathAt, pathWeight, pathLength, pathVertices, pathEnd, coverOf, markParts}
+use Rattle.forms.specs.GraphFaults.{allBelow, graphVerdict}
 use Rattle.forms.specs.GraphForm.{vertexCount}
 use Rattle.forms.specs.GraphOf.{graphOf}
-use Rattle.forms.specs.GraphFaults.{allBelow, graphVerdict}
-use Rattle.forms.specs.AnswerForm.{answerLengthWord, answerVersion, pathCount, statedPrice, markLength, inMarkAt, signed32, marksOf, firstPathAt, pathWeight, pathLength, pathVertices, pathEnd, coverOf}
-use Rattle.forms.specs.AnswerFaults.{listBefore}
+use Rattle.forms.specs.Layout.{maxPaths, maxWeight, answerVersionOf, maxPathLength}
+use Rattle.forms.specs.Limits.{markLimit}
 use Rattle.checker.specs.Check.{samePrice}
 
 -- "Answer: length (4), version (1), number of paths (2), price (8): 15 bytes", "paths 0..464": none of 11, 12, 13
-pub record HeaderRight (s t : List ℕ) : Type 0 where
-  pub long : firstPathAt (vertexCount s) ≤ length t
+pub record AnswerHeaderRight (s t : List ℕ) : Type 0 where
+  pub long : firstPathAt s ≤ length t
   pub length-stated : answerLengthWord t ≡ length t
-  pub version-known : answerVersion t ≡ 1
-  pub few-paths : pathCount t ≤ maxPaths
+  pub version-known : answerVersion t ≡ answerVersionOf s
+  pub few-paths : pathCount t ≤ maxPaths s
 
 -- "marks -2,000,000,000..2,000,000,000"
 abbrev pub InRange : ℤ → Type 0
@@ -37,25 +38,25 @@ MarkRight t at = InRange (signed32 t at)
 
 abbrev pub MarksRight : List ℕ → ℕ → ℕ → Type 0
 MarksRight t zero at = Unit {0}
-MarksRight t (suc count) at = MarkRight t at × MarksRight t count (at + markLength)
+MarksRight t (suc count) at = MarkRight t at × MarksRight t count (at + markPartLength)
 
 -- none of 15 to 18: the path record at an offset, behind the path `before` and a number of copies. "A path is one vertex or more, each consecutive pair an arc,
 -- the first a start, the last an end. It has a weight, its number of copies, at least 1."
 pub record PathRight (s t : List ℕ) (at : ℕ) (before : List ℕ) (copies : ℕ) : Type 0 where
-  pub some-vertex : 1 ≤ pathLength t at
-  pub few-vertices : pathLength t at ≤ maxPathLength
-  pub within : pathEnd t at ≤ length t
+  pub some-vertex : 1 ≤ pathLength s t at
+  pub few-vertices : pathLength s t at ≤ maxPathLength s
+  pub within : pathEnd s t at ≤ length t
   pub some-copy : 1 ≤ pathWeight t at
-  pub few-copies : copies + pathWeight t at ≤ maxWeight
-  pub vertices-known : T (allBelow (vertexCount s) (pathVertices t at))
-  pub is-path : T (isPath (graphOf s) (pathVertices t at))
-  pub ascends : T (listBefore before (pathVertices t at))
+  pub few-copies : copies + pathWeight t at ≤ maxWeight s
+  pub vertices-known : T (allBelow (vertexCount s) (pathVertices s t at))
+  pub is-path : T (isPath (graphOf s) (pathVertices s t at))
+  pub ascends : T (listBefore before (pathVertices s t at))
 
 -- count path records, the first at an offset, and no byte behind the last
 abbrev pub PathsRight : List ℕ → List ℕ → ℕ → ℕ → List ℕ → ℕ → Type 0
 PathsRight s t zero at before copies = length t ≤ at
 PathsRight s t (suc count) at before copies =
-    PathRight s t at before copies × PathsRight s t count (pathEnd t at) (pathVertices t at) (copies + pathWeight t at)
+    PathRight s t at before copies × PathsRight s t count (pathEnd s t at) (pathVertices s t at) (copies + pathWeight t at)
 
 module _ (P : Prices) where
   -- none of 19 to 22 for a graph, weighted paths, the price stated for them and marks
@@ -69,7 +70,7 @@ module _ (P : Prices) where
 -- an answer form that is accepted for a graph form
 pub record Accepted (s t : List ℕ) : Type 0 where
   pub graph-reads : graphVerdict s .number ≡ 0
-  pub header : HeaderRight s t
-  pub marks : MarksRight t (2 * vertexCount s) (inMarkAt 0)
-  pub paths : PathsRight s t (pathCount t) (firstPathAt (vertexCount s)) [] 0
-  pub certificate : Certified whole (graphOf s) (coverOf (vertexCount s) t) (pos (statedPrice t)) (marksOf t)
+  pub header : AnswerHeaderRight s t
+  pub marks : MarksRight t (markParts s) (inMarkAt s 0)
+  pub paths : PathsRight s t (pathCount t) (firstPathAt s) [] 0
+  pub certificate : Certified whole (graphOf s) (coverOf s t) (pos (statedPrice s t)) (answerMarks s t)

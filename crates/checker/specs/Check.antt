@@ -12,11 +12,10 @@ use Rattle.mathematics.specs.Graph.{Vertex, Arc, Graph}
 use Rattle.mathematics.specs.Cover.{Ask, Weighted, asks, total, paths, price}
 use Rattle.mathematics.specs.Bound.{Marks, vertexSlacksHold, arcSlackHolds, bound}
 use Rattle.forms.specs.declared.Verdict.{Verdict}
-use Rattle.forms.specs.GraphForm.{vertexCount}
-use Rattle.forms.specs.GraphOf.{graphOf}
-use Rattle.forms.specs.GraphFaults.{refusal, nothingRefused, graphVerdict}
-use Rattle.forms.specs.AnswerForm.{pathCount, statedPrice, inMarkAt, marksOf, firstPathAt, pathVertices, pathEnd, coverOf}
 use Rattle.forms.specs.AnswerFaults.{answerHeaderVerdict, marksVerdict, pathsVerdict}
+use Rattle.forms.specs.AnswerForm.{pathCount, statedPrice, inMarkAt, answerMarks, firstPathAt, pathHeaderLength, pathVertices, pathEnd, coverOf, markParts}
+use Rattle.forms.specs.GraphFaults.{refusal, nothingRefused, graphVerdict}
+use Rattle.forms.specs.GraphOf.{graphOf}
 
 -- the two prices are equal: neither is above the other
 abbrev pub samePrice : (P : Prices) → P .El → P .El → Bool
@@ -64,9 +63,9 @@ module _ (P : Prices) where
 unfoldable pub answerVerdict : List ℕ → List ℕ → Verdict
 answerVerdict s t =
     answerHeaderVerdict s t
-    (marksVerdict t (2 * vertexCount s) (inMarkAt 0)
-    (pathsVerdict s t (pathCount t) (firstPathAt (vertexCount s)) [] 0
-    (certificateVerdict whole (graphOf s) (coverOf (vertexCount s) t) (pos (statedPrice t)) (marksOf t))))
+    (marksVerdict t (markParts s) (inMarkAt s 0)
+    (pathsVerdict s t (pathCount t) (firstPathAt s) [] 0
+    (certificateVerdict whole (graphOf s) (coverOf s t) (pos (statedPrice s t)) (answerMarks s t))))
 
 unfoldable pub checkVerdict : List ℕ → List ℕ → Verdict
 checkVerdict s t = cond (eqb (graphVerdict s .number) 0) (answerVerdict s t) (graphVerdict s)
@@ -77,11 +76,16 @@ handOutVerdict s t k =
     cond (eqb (checkVerdict s t .number) 0) (cond (ltb k (pathCount t)) nothingRefused (refusal 23 0)) (checkVerdict s t)
 
 -- the offset of path k, where the first path is at an offset
-abbrev pub pathAt : List ℕ → ℕ → ℕ → ℕ
-pathAt t zero at = at
-pathAt t (suc k) at = pathAt t k (pathEnd t at)
+abbrev pub pathAt : List ℕ → List ℕ → ℕ → ℕ → ℕ
+pathAt s t zero at = at
+pathAt s t (suc k) at = pathAt s t k (pathEnd s t at)
 
 -- "it gives the vertex bytes of that path as a part of the answer, or an empty part where the checker would refuse or 23 holds"
 unfoldable pub handedOut : List ℕ → List ℕ → ℕ → List ℕ
 handedOut s t k =
-    cond (eqb (handOutVerdict s t k .number) 0) (pathVertices t (pathAt t k (firstPathAt (vertexCount s)))) []
+    cond (eqb (handOutVerdict s t k .number) 0) (pathVertices s t (pathAt s t k (firstPathAt s))) []
+
+-- where in the answer this part begins: behind the weight and the vertex count of path k; an empty part is at the answer's front
+unfoldable pub handedOutAt : List ℕ → List ℕ → ℕ → ℕ
+handedOutAt s t k =
+    cond (eqb (handOutVerdict s t k .number) 0) (pathAt s t k (firstPathAt s) + pathHeaderLength s) 0

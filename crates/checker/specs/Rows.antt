@@ -12,11 +12,10 @@ use Rattle.mathematics.specs.Graph.{Graph}
 use Rattle.mathematics.specs.Cover.{asks, Weighted, IsCover, IsLowest, price}
 use Rattle.mathematics.specs.Exists.{ItemOnPath}
 use Rattle.mathematics.specs.Reach.{askLies}
-use Rattle.forms.specs.GraphForm.{vertexCount}
-use Rattle.forms.specs.GraphOf.{graphOf}
-use Rattle.forms.specs.GraphFaults.{refusal, nothingRefused, graphVerdict}
-use Rattle.forms.specs.BuildFaults.{roomAsked, noAsk, buildVerdict}
 use Rattle.forms.specs.AnswerForm.{coverOf}
+use Rattle.forms.specs.BuildFaults.{roomAsked, noAsk, buildVerdict}
+use Rattle.forms.specs.GraphFaults.{refusal, nothingRefused, graphVerdict}
+use Rattle.forms.specs.GraphOf.{graphOf}
 use Rattle.checker.specs.Check.{checkVerdict}
 
 -- a row: graph bytes with, as the case may be, answer bytes, the paths and the price that they state; answer bytes and the refusal's number and place;
@@ -37,9 +36,9 @@ pub record ShutAt (G : Graph ℤ) (item : ℕ) : Type 0 where
 -- and that the builder refuses with 8 even where the output has room
 abbrev pub RowHolds : Row → Type 0
 RowHolds (priced s t W p) =
-    (checkVerdict s t ≡ nothingRefused) × (coverOf (vertexCount s) t ≡ W) × IsLowest whole (graphOf s) W × (price whole (graphOf s) W ≡ pos p)
+    (checkVerdict s t ≡ nothingRefused) × (coverOf s t ≡ W) × IsLowest whole (graphOf s) W × (price whole (graphOf s) W ≡ pos p)
 RowHolds (refused s t number place) = checkVerdict s t ≡ refusal number place
-RowHolds (shut s item) = (graphVerdict s .number ≡ 0) × ShutAt (graphOf s) item × (buildVerdict s roomAsked ≡ refusal 8 item)
+RowHolds (shut s item) = (graphVerdict s .number ≡ 0) × ShutAt (graphOf s) item × (buildVerdict s (roomAsked s) ≡ refusal 8 item)
 
 abbrev copies : ℕ → List ℕ → Weighted
 copies w p = record { weight = w; path = p }

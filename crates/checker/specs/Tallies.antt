@@ -10,12 +10,13 @@ use Rattle.mathematics.specs.Price.{whole}
 use Rattle.mathematics.specs.Lists.{lastOf, holds, someHolds}
 use Rattle.mathematics.specs.Graph.{linked, isPath, isEnd}
 use Rattle.mathematics.specs.Cover.{Item, vert, trail, arcCosts, total, paths, price}
-use Rattle.forms.specs.Limits.{maxVertices, maxArcs, maxReads, maxCost, maxWeight, maxPathLength}
+use Rattle.forms.specs.AnswerFaults.{pathHeadOr, pathFault, pathsVerdict}
+use Rattle.forms.specs.AnswerForm.{pathCount, firstPathAt, pathWeight, pathLength, pathVertices, pathEnd, coverOf}
+use Rattle.forms.specs.GraphFaults.{allBelow, refusal, nothingRefused}
 use Rattle.forms.specs.GraphForm.{vertexCount, arcCount, readCount, firstReadAt}
 use Rattle.forms.specs.GraphOf.{graphOf, arcsOf, readsFrom, arcItem}
-use Rattle.forms.specs.GraphFaults.{allBelow, refusal, nothingRefused}
-use Rattle.forms.specs.AnswerForm.{pathCount, firstPathAt, pathWeight, pathLength, pathVertices, pathEnd, coverOf}
-use Rattle.forms.specs.AnswerFaults.{pathHeadOr, pathFault, pathsVerdict}
+use Rattle.forms.specs.Layout.{maxWeight, maxPathLength}
+use Rattle.forms.specs.Limits.{roomVertices, roomArcs, roomReads, maxCost}
 use Rattle.certify.specs.Growth.{Grown}
 
 -- read r of a graph form
@@ -23,8 +24,8 @@ abbrev pub readOf : List ℕ → ℕ → List ℕ
 readOf s r = getD (readsFrom s (readCount s) (firstReadAt s)) r []
 
 -- the reads that the path p holds are met besides those that were met before
-pub record Marked (s p : List ℕ) (before after : List Bool) : Type 0 where
-  pub long : length after ≡ maxReads
+pub record ReadsMet (s p : List ℕ) (before after : List Bool) : Type 0 where
+  pub long : length after ≡ roomReads
   pub met : (r : ℕ) → r < readCount s → getD after r false ≡ (getD before r false || holds p (readOf s r))
 
 -- the path goes on rightly from u along q: vertices of the graph, each pair an arc, the last an end
@@ -32,43 +33,43 @@ unfoldable pub goesOnTo : List ℕ → ℕ → List ℕ → Bool
 goesOnTo s u q = allBelow (vertexCount s) q && (linked (arcsOf s) (u ∷ q) && isEnd (graphOf s) (lastOf u q))
 
 -- the totals of vertices and of arcs are as many as there can be, and have room for the weight of one more path
-pub record Room (s vertexTotals arcTotals : List ℕ) (weight times : ℕ) : Type 0 where
-  pub low-weight : weight ≤ maxWeight
-  pub vertices-long : length vertexTotals ≡ maxVertices
-  pub arcs-long : length arcTotals ≡ maxArcs
-  pub vertices-low : (v : ℕ) → v < maxVertices → getD vertexTotals v 0 ≤ times * maxWeight
-  pub arcs-low : (k : ℕ) → k < arcCount s → getD arcTotals k 0 ≤ times * maxWeight
+pub record TotalsFit (s vertexTotals arcTotals : List ℕ) (weight times : ℕ) : Type 0 where
+  pub low-weight : weight ≤ maxWeight s
+  pub vertices-long : length vertexTotals ≡ roomVertices
+  pub arcs-long : length arcTotals ≡ roomArcs
+  pub vertices-low : (v : ℕ) → v < roomVertices → getD vertexTotals v 0 ≤ times * maxWeight s
+  pub arcs-low : (k : ℕ) → k < arcCount s → getD arcTotals k 0 ≤ times * maxWeight s
 
 -- what walking along p gives: whether it is right, and where it is, the totals grown by the items on it and the costs of its arcs
-pub record Walked (s : List ℕ) (right : Bool) (items : List Item) (p : List ℕ) (weight : ℕ) (vb va ab aa : List ℕ) (ok : Bool) (cost : ℕ) : Type 0 where
+pub record WalkTallied (s : List ℕ) (right : Bool) (items : List Item) (p : List ℕ) (weight : ℕ) (vb va ab aa : List ℕ) (ok : Bool) (cost : ℕ) : Type 0 where
   pub is-right : ok ≡ right
   pub grown : ok ≡ true → Grown s weight items vb va ab aa
   pub costs : ok ≡ true → pos cost ≡ arcCosts whole (arcsOf s) p
-  pub low-cost : ok ≡ true → cost ≤ maxCost * maxPathLength
+  pub low-cost : ok ≡ true → cost ≤ maxCost * roomVertices
 
 -- what walking along a whole path gives
 abbrev pub PathWalked : List ℕ → List ℕ → ℕ → List ℕ → List ℕ → List ℕ → List ℕ → Bool → ℕ → Type 0
-PathWalked s p = Walked s (allBelow (vertexCount s) p && isPath (graphOf s) p) (trail p) p
+PathWalked s p = WalkTallied s (allBelow (vertexCount s) p && isPath (graphOf s) p) (trail p) p
 
 -- the head of a path's record, so far as it can be judged without the graph: 15, 16, 15 or 17
-unfoldable pub pathHeadFault : List ℕ → ℕ → ℕ → ℕ
-pathHeadFault t at copies = pathHeadOr t at copies 0
+unfoldable pub pathHeadFault : List ℕ → List ℕ → ℕ → ℕ → ℕ
+pathHeadFault s t at copies = pathHeadOr s t at copies 0
 
 -- the head of a path's record is right
-pub record PathHead (t : List ℕ) (at copies : ℕ) : Type 0 where
-  pub whole : pathEnd t at ≤ length t
-  pub some : 1 ≤ pathLength t at
-  pub short : pathLength t at ≤ maxPathLength
+pub record PathHead (s t : List ℕ) (at copies : ℕ) : Type 0 where
+  pub whole : pathEnd s t at ≤ length t
+  pub some : 1 ≤ pathLength s t at
+  pub short : pathLength s t at ≤ maxPathLength s
   pub weighs : 1 ≤ pathWeight t at
-  pub few-copies : copies + pathWeight t at ≤ maxWeight
+  pub few-copies : copies + pathWeight t at ≤ maxWeight s
 
 -- a path's record is right and is tallied: totals grown (b before, a after), reads marked, the costs of its arcs found
 pub record Recorded (s t : List ℕ) (at copies : ℕ) (vb va ab aa : List ℕ) (mb ma : List Bool) (cost : ℕ) : Type 0 where
-  pub head : PathHead t at copies
-  pub grown : Grown s (pathWeight t at) (trail (pathVertices t at)) vb va ab aa
-  pub marked : Marked s (pathVertices t at) mb ma
-  pub costs : pos cost ≡ arcCosts whole (arcsOf s) (pathVertices t at)
-  pub low-cost : cost ≤ maxCost * maxPathLength
+  pub head : PathHead s t at copies
+  pub grown : Grown s (pathWeight t at) (trail (pathVertices s t at)) vb va ab aa
+  pub marked : ReadsMet s (pathVertices s t at) mb ma
+  pub costs : pos cost ≡ arcCosts whole (arcsOf s) (pathVertices s t at)
+  pub low-cost : cost ≤ maxCost * roomVertices
 
 -- what reading one path's record gives: its fault, and where there is none the tallies
 pub record PathRead (s t : List ℕ) (at : ℕ) (before : List ℕ) (copies : ℕ) (vb va ab aa : List ℕ) (mb ma : List Bool) (fault cost : ℕ) : Type 0 where
@@ -77,26 +78,26 @@ pub record PathRead (s t : List ℕ) (at : ℕ) (before : List ℕ) (copies : �
 
 -- nothing is tallied yet
 pub record NothingTallied (vertexTotals arcTotals : List ℕ) (met : List Bool) : Type 0 where
-  pub vertices-long : length vertexTotals ≡ maxVertices
-  pub arcs-long : length arcTotals ≡ maxArcs
-  pub reads-long : length met ≡ maxReads
+  pub vertices-long : length vertexTotals ≡ roomVertices
+  pub arcs-long : length arcTotals ≡ roomArcs
+  pub reads-long : length met ≡ roomReads
   pub vertices : (v : ℕ) → getD vertexTotals v 0 ≡ 0
   pub arcs : (k : ℕ) → getD arcTotals k 0 ≡ 0
   pub reads : (r : ℕ) → getD met r false ≡ false
 
 -- the tallies are those of all paths of the answer
 pub record Tallied (s t vertexTotals arcTotals : List ℕ) (met : List Bool) (cost : ℕ) : Type 0 where
-  pub vertices : (v : ℕ) → v < vertexCount s → getD vertexTotals v 0 ≡ total (vert v) (coverOf (vertexCount s) t)
-  pub arcs : (k : ℕ) → k < arcCount s → getD arcTotals k 0 ≡ total (arcItem s k) (coverOf (vertexCount s) t)
-  pub reads : (r : ℕ) → r < readCount s → getD met r false ≡ someHolds (paths (coverOf (vertexCount s) t)) (readOf s r)
-  pub costs : pos cost ≡ price whole (graphOf s) (coverOf (vertexCount s) t)
+  pub vertices : (v : ℕ) → v < vertexCount s → getD vertexTotals v 0 ≡ total (vert v) (coverOf s t)
+  pub arcs : (k : ℕ) → k < arcCount s → getD arcTotals k 0 ≡ total (arcItem s k) (coverOf s t)
+  pub reads : (r : ℕ) → r < readCount s → getD met r false ≡ someHolds (paths (coverOf s t)) (readOf s r)
+  pub costs : pos cost ≡ price whole (graphOf s) (coverOf s t)
 
 -- what reading all paths gives: the verdict, and where nothing is refused the tallies
 pub record PathsRead (s t vertexTotals arcTotals : List ℕ) (met : List Bool) (number place cost : ℕ) : Type 0 where
-  pub verdict : refusal number place ≡ pathsVerdict s t (pathCount t) (firstPathAt (vertexCount s)) [] 0 nothingRefused
+  pub verdict : refusal number place ≡ pathsVerdict s t (pathCount t) (firstPathAt s) [] 0 nothingRefused
   pub tallied : number ≡ 0 → Tallied s t vertexTotals arcTotals met cost
 
 -- the records of count paths, the first at an offset, lie within the answer
-abbrev pub PathsStand : List ℕ → ℕ → ℕ → Type 0
-PathsStand t zero at = Unit {0}
-PathsStand t (suc count) at = (pathEnd t at ≤ length t) × PathsStand t count (pathEnd t at)
+abbrev pub PathsStand : List ℕ → List ℕ → ℕ → ℕ → Type 0
+PathsStand s t zero at = Unit {0}
+PathsStand s t (suc count) at = (pathEnd s t at ≤ length t) × PathsStand s t count (pathEnd s t at)

@@ -7,16 +7,15 @@ use forms::arcs::find_arc;
 use forms::bytes::wide;
 use forms::fields::answer_length_word;
 use forms::fields::answer_version;
-use forms::fields::answer_version_at;
 use forms::fields::arc_cost;
+use forms::fields::first_arc_at;
 use forms::fields::first_path_at;
 use forms::fields::first_read_at;
 use forms::fields::in_mark_at;
 use forms::fields::mark_bits;
-use forms::fields::mark_end;
+use forms::fields::mark_parts;
 use forms::fields::opening_price;
 use forms::fields::path_count;
-use forms::fields::path_count_at;
 use forms::fields::path_end;
 use forms::fields::path_length;
 use forms::fields::path_vertices_at;
@@ -26,32 +25,37 @@ use forms::fields::read_end;
 use forms::fields::read_length;
 use forms::fields::read_vertices_at;
 use forms::fields::vertex_count;
-use forms::fields::vertex_flags;
+use forms::layout::answer_version_of;
+use forms::layout::max_path_length;
+use forms::layout::max_paths;
+use forms::layout::max_weight;
+use forms::roles::is_end;
+use forms::roles::is_start;
 ghost use mathlib.Core.Path.{_≡_};
 ghost use Prim.Native.Nat.{_+_, _*_, _<_, _≤_};
 ghost use mathlib.Core.List.{_∷_};
 ghost use lib.ListN.{length};
 ghost use mathlib.Core.Bool.{_||_};
 ghost use Rattle.mathematics.specs.Lists.{holds, Rising};
-ghost use Rattle.mathematics.specs.Graph.{isStart, isEnd};
-ghost use Rattle.forms.specs.Bytes.{part};
-ghost use Rattle.forms.specs.GraphForm.{headerLength, vertexCount};
-ghost use Rattle.forms.specs.GraphOf.{graphOf};
-ghost use Rattle.forms.specs.GraphFaults.{nothingRefused};
-ghost use Rattle.forms.specs.Limits.{maxReads, maxWeight};
-ghost use Rattle.forms.specs.GraphReads.{Reads};
-ghost use Rattle.forms.specs.ArcTable.{ArcTable};
-ghost use Rattle.checker.specs.Tallies.{Marked, Room, Walked, PathWalked, goesOnTo, pathHeadFault, PathHead, PathRead, NothingTallied, PathsRead};
-ghost use Rattle.certify.specs.Growth.{onward};
-ghost use Rattle.forms.specs.AnswerForm.{inMarkAt, firstPathAt};
 ghost use Rattle.forms.specs.AnswerFaults.{answerHeaderVerdict, markFault, marksVerdict, listBefore};
+ghost use Rattle.forms.specs.AnswerForm.{inMarkAt, markParts, markPartLength, firstPathAt};
+ghost use Rattle.forms.specs.ArcTable.{ArcTable};
+ghost use Rattle.forms.specs.Roles.{Roles};
+ghost use Rattle.forms.specs.Bytes.{part};
+ghost use Rattle.forms.specs.GraphFaults.{nothingRefused};
+ghost use Rattle.forms.specs.GraphForm.{headerLength, vertexCount};
+ghost use Rattle.forms.specs.GraphReads.{Reads};
+ghost use Rattle.forms.specs.Layout.{maxWeight};
+ghost use Rattle.forms.specs.Limits.{roomVertices, roomReads};
+ghost use Rattle.checker.specs.Tallies.{ReadsMet, TotalsFit, WalkTallied, PathWalked, goesOnTo, pathHeadFault, PathHead, PathRead, NothingTallied, PathsRead};
+ghost use Rattle.certify.specs.Growth.{onward};
 
 // What is wrong with the header: 11, 12 or 13.
 pub fn header_verdict(s: &[u8], t: &[u8]) -> Verdict
-    requires { ⌜ headerLength ≤ length (now s) ⌝ }
+    requires { ⌜ headerLength (now s) ≤ length (now s) ⌝ }
     ensures { λ r. ⌜ r ≡ answerHeaderVerdict (now (s .entry)) (now (t .entry)) nothingRefused ⌝ }
 {
-    if t.len() < first_path_at(vertex_count(s)) {
+    if t.len() < first_path_at(s) {
         return Verdict {
             number: 11,
             place: 0,
@@ -63,16 +67,16 @@ pub fn header_verdict(s: &[u8], t: &[u8]) -> Verdict
             place: 0,
         };
     }
-    if answer_version(t) != 1 {
+    if answer_version(t) != answer_version_of(s) {
         return Verdict {
             number: 12,
-            place: answer_version_at(),
+            place: Answer::AT_VERSION,
         };
     }
-    if Answer::MAX_PATHS < path_count(t) {
+    if max_paths(s) < path_count(t) {
         return Verdict {
             number: 13,
-            place: path_count_at(),
+            place: Answer::AT_PATHS,
         };
     }
     Verdict {
@@ -83,7 +87,7 @@ pub fn header_verdict(s: &[u8], t: &[u8]) -> Verdict
 
 // A mark is in range where its 32 bits are at most the limit, or at least 2^32 less the limit.
 fn mark_fault(t: &[u8], at: usize) -> usize
-    requires { ⌜ at + 3 < length (now t) ⌝ }
+    requires { ⌜ at + markPartLength ≤ length (now t) ⌝ }
     ensures { λ r. ⌜ r ≡ markFault (now (t .entry)) at ⌝ }
 {
     let x = mark_bits(t, at);
@@ -96,13 +100,13 @@ fn mark_fault(t: &[u8], at: usize) -> usize
     14
 }
 
-// The first mark out of range, of the marks of n vertices.
-pub fn marks_verdict(t: &[u8], n: usize) -> Verdict
-    requires { ⌜ (15 + 8 * n ≤ length (now t)) × (n < 256) ⌝ }
-    ensures { λ r. ⌜ r ≡ marksVerdict (now (t .entry)) (2 * n) (inMarkAt 0) nothingRefused ⌝ }
+// The first number out of range, of those that make the marks.
+pub fn marks_verdict(s: &[u8], t: &[u8]) -> Verdict
+    requires { ⌜ (headerLength (now s) ≤ length (now s)) × (firstPathAt (now s) ≤ length (now t)) ⌝ }
+    ensures { λ r. ⌜ r ≡ marksVerdict (now (t .entry)) (markParts (now (s .entry))) (inMarkAt (now (s .entry)) 0) nothingRefused ⌝ }
 {
-    let mut left = 2 * n;
-    let mut at = in_mark_at(0);
+    let mut left = mark_parts(s);
+    let mut at = in_mark_at(s, 0);
     while 0 < left {
         let fault = mark_fault(t, at);
         if fault != 0 {
@@ -111,7 +115,7 @@ pub fn marks_verdict(t: &[u8], n: usize) -> Verdict
                 place: at,
             };
         }
-        at = mark_end(at);
+        at += Answer::MARK_PART;
         left -= 1;
     }
     Verdict {
@@ -181,9 +185,9 @@ fn met_now(met: bool, s: &[u8], a: usize, la: usize, t: &[u8], b: usize, lb: usi
 }
 
 // Marks the reads that the path of lb vertices at b holds. Reads are walked by their records.
-fn mark_reads(s: &[u8], t: &[u8], b: usize, lb: usize, met: &mut [bool; Graph::MAX_READS])
-    requires { ⌜ Reads (now s) × (b + lb ≤ length (now t)) × (length (now met) ≡ maxReads) × Rising (part (now t) b lb) ⌝ }
-    ensures { λ r. ⌜ Marked (now (s .entry)) (part (now (t .entry)) b lb) (now (met .entry)) (now (met .exit)) ⌝ }
+fn mark_reads(s: &[u8], t: &[u8], b: usize, lb: usize, met: &mut [bool; Graph::ROOM_READS])
+    requires { ⌜ Reads (now s) × (b + lb ≤ length (now t)) × (length (now met) ≡ roomReads) × Rising (part (now t) b lb) ⌝ }
+    ensures { λ r. ⌜ ReadsMet (now (s .entry)) (part (now (t .entry)) b lb) (now (met .entry)) (now (met .exit)) ⌝ }
 {
     let count = read_count(s);
     let mut at = first_read_at(s);
@@ -202,37 +206,25 @@ struct Walk {
     cost: usize,
 }
 
-fn is_start(s: &[u8], v: usize) -> bool
-    requires { ⌜ Reads (now s) × (v < vertexCount (now s)) ⌝ }
-    ensures { λ r. ⌜ r ≡ isStart (graphOf (now (s .entry))) v ⌝ }
-{
-    vertex_flags(s, v) % 2 == 1
-}
-
-fn is_end(s: &[u8], v: usize) -> bool
-    requires { ⌜ Reads (now s) × (v < vertexCount (now s)) ⌝ }
-    ensures { λ r. ⌜ r ≡ isEnd (graphOf (now (s .entry))) v ⌝ }
-{
-    vertex_flags(s, v) / 2 == 1
-}
-
 // Walks on from vertex u, which is counted already, along lb vertices at b: one look for an arc with each.
 fn walk_on(
     s: &[u8],
-    first: &[u16; Graph::MAX_VERTICES + 1],
+    first: &[u16; Graph::ROOM_VERTICES + 1],
+    roles: &[u8; Graph::ROOM_VERTICES],
     t: &[u8],
     b: usize,
     lb: usize,
     from: usize,
     weight: usize,
-    vertex_totals: &mut [usize; Graph::MAX_VERTICES],
-    arc_totals: &mut [usize; Graph::MAX_ARCS],
+    vertex_totals: &mut [usize; Graph::ROOM_VERTICES],
+    arc_totals: &mut [usize; Graph::ROOM_ARCS],
 ) -> Walk
-    requires { ⌜ Reads (now s) × ArcTable (now s) (now first) × (from < vertexCount (now s)) ⌝ }
-    requires { ⌜ (lb ≤ 63) × (b + lb ≤ length (now t)) × Room (now s) (now «vertex_totals») (now «arc_totals») weight 129 ⌝ }
-    ensures { λ r. ⌜ Walked (now (s .entry)) (goesOnTo (now (s .entry)) from (part (now (t .entry)) b lb)) (onward from (part (now (t .entry)) b lb)) (from ∷ part (now (t .entry)) b lb) weight (now («vertex_totals» .entry)) (now («vertex_totals» .exit)) (now («arc_totals» .entry)) (now («arc_totals» .exit)) (r .ok) (r .cost) ⌝ }
+    requires { ⌜ Reads (now s) × ArcTable (now s) (now first) × Roles (now s) (now roles) × (from < vertexCount (now s)) ⌝ }
+    requires { ⌜ (lb + 1 ≤ roomVertices) × (b + lb ≤ length (now t)) × TotalsFit (now s) (now «vertex_totals») (now «arc_totals») weight (2 * roomVertices + 1) ⌝ }
+    ensures { λ r. ⌜ WalkTallied (now (s .entry)) (goesOnTo (now (s .entry)) from (part (now (t .entry)) b lb)) (onward from (part (now (t .entry)) b lb)) (from ∷ part (now (t .entry)) b lb) weight (now («vertex_totals» .entry)) (now («vertex_totals» .exit)) (now («arc_totals» .entry)) (now («arc_totals» .exit)) (r .ok) (r .cost) ⌝ }
 {
     let n = vertex_count(s);
+    let base = first_arc_at(s);
     let mut u = from;
     let mut cost = 0;
     let mut j = 0;
@@ -247,40 +239,42 @@ fn walk_on(
         };
         arc_totals[k] = arc_totals[k] + weight;
         vertex_totals[v] = vertex_totals[v] + weight;
-        cost += arc_cost(s, n, k);
+        cost += arc_cost(s, base, k);
         u = v;
         j += 1;
     }
-    let ok = is_end(s, u);
+    let ok = is_end(s, roles, u);
     Walk { ok, cost }
 }
 
 // Walks along the path of lb vertices at b, whose weight is added to the totals of the vertices and arcs on it.
 fn walk_path(
     s: &[u8],
-    first: &[u16; Graph::MAX_VERTICES + 1],
+    first: &[u16; Graph::ROOM_VERTICES + 1],
+    roles: &[u8; Graph::ROOM_VERTICES],
     t: &[u8],
     b: usize,
     lb: usize,
     weight: usize,
-    vertex_totals: &mut [usize; Graph::MAX_VERTICES],
-    arc_totals: &mut [usize; Graph::MAX_ARCS],
+    vertex_totals: &mut [usize; Graph::ROOM_VERTICES],
+    arc_totals: &mut [usize; Graph::ROOM_ARCS],
 ) -> Walk
-    requires { ⌜ Reads (now s) × ArcTable (now s) (now first) × (1 ≤ lb) × (lb ≤ 64) ⌝ }
-    requires { ⌜ (b + lb ≤ length (now t)) × Room (now s) (now «vertex_totals») (now «arc_totals») weight 128 ⌝ }
+    requires { ⌜ Reads (now s) × ArcTable (now s) (now first) × Roles (now s) (now roles) × (1 ≤ lb) × (lb ≤ roomVertices) ⌝ }
+    requires { ⌜ (b + lb ≤ length (now t)) × TotalsFit (now s) (now «vertex_totals») (now «arc_totals») weight (2 * roomVertices) ⌝ }
     ensures { λ r. ⌜ PathWalked (now (s .entry)) (part (now (t .entry)) b lb) weight (now («vertex_totals» .entry)) (now («vertex_totals» .exit)) (now («arc_totals» .entry)) (now («arc_totals» .exit)) (r .ok) (r .cost) ⌝ }
 {
     let u = wide(t[b]);
     if vertex_count(s) <= u {
         return Walk { ok: false, cost: 0 };
     }
-    if !is_start(s, u) {
+    if !is_start(s, roles, u) {
         return Walk { ok: false, cost: 0 };
     }
     vertex_totals[u] = vertex_totals[u] + weight;
     walk_on(
         s,
         first,
+        roles,
         t,
         b + 1,
         lb - 1,
@@ -292,29 +286,29 @@ fn walk_path(
 }
 
 // What is wrong with a path's record, so far as it can be told without the graph: 15, 16, 15, 17 or nothing.
-fn path_head_fault(t: &[u8], at: usize, copies: usize) -> usize
-    requires { ⌜ (at ≤ length (now t)) × (copies ≤ maxWeight) ⌝ }
-    ensures { λ r. ⌜ r ≡ pathHeadFault (now (t .entry)) at copies ⌝ }
-    ensures right { λ r. ⌜ (r ≡ 0 → PathHead (now (t .entry)) at copies) ⌝ }
+fn path_head_fault(s: &[u8], t: &[u8], at: usize, copies: usize) -> usize
+    requires { ⌜ (at ≤ length (now t)) × (copies ≤ maxWeight (now s)) ⌝ }
+    ensures { λ r. ⌜ r ≡ pathHeadFault (now (s .entry)) (now (t .entry)) at copies ⌝ }
+    ensures right { λ r. ⌜ (r ≡ 0 → PathHead (now (s .entry)) (now (t .entry)) at copies) ⌝ }
 {
-    if t.len() < path_vertices_at(at) {
+    if t.len() < path_vertices_at(s, at) {
         return 15;
     }
-    let len = path_length(t, at);
+    let len = path_length(s, t, at);
     if len == 0 {
         return 16;
     }
-    if Answer::MAX_PATH < len {
+    if max_path_length(s) < len {
         return 16;
     }
-    if t.len() < path_end(t, at) {
+    if t.len() < path_end(s, t, at) {
         return 15;
     }
     let weight = path_weight(t, at);
     if weight == 0 {
         return 17;
     }
-    if Answer::MAX_WEIGHT < copies + weight {
+    if max_weight(s) < copies + weight {
         return 17;
     }
     0
@@ -330,28 +324,29 @@ struct PathRecord {
 // The path before it has lp vertices at p. Where there is a fault the tallies are of no use any more.
 fn read_path(
     s: &[u8],
-    first: &[u16; Graph::MAX_VERTICES + 1],
+    first: &[u16; Graph::ROOM_VERTICES + 1],
+    roles: &[u8; Graph::ROOM_VERTICES],
     t: &[u8],
     at: usize,
     p: usize,
     lp: usize,
     copies: usize,
-    vertex_totals: &mut [usize; Graph::MAX_VERTICES],
-    arc_totals: &mut [usize; Graph::MAX_ARCS],
-    met: &mut [bool; Graph::MAX_READS],
+    vertex_totals: &mut [usize; Graph::ROOM_VERTICES],
+    arc_totals: &mut [usize; Graph::ROOM_ARCS],
+    met: &mut [bool; Graph::ROOM_READS],
 ) -> PathRecord
-    requires { ⌜ Reads (now s) × ArcTable (now s) (now first) × (at ≤ length (now t)) × (p + lp ≤ length (now t)) × (copies ≤ maxWeight) ⌝ }
-    requires { ⌜ Room (now s) (now «vertex_totals») (now «arc_totals») 0 128 × (length (now met) ≡ maxReads) ⌝ }
+    requires { ⌜ Reads (now s) × ArcTable (now s) (now first) × Roles (now s) (now roles) × (at ≤ length (now t)) × (p + lp ≤ length (now t)) × (copies ≤ maxWeight (now s)) ⌝ }
+    requires { ⌜ TotalsFit (now s) (now «vertex_totals») (now «arc_totals») 0 (2 * roomVertices) × (length (now met) ≡ roomReads) ⌝ }
     ensures { λ r. ⌜ PathRead (now (s .entry)) (now (t .entry)) at (part (now (t .entry)) p lp) copies (now («vertex_totals» .entry)) (now («vertex_totals» .exit)) (now («arc_totals» .entry)) (now («arc_totals» .exit)) (now (met .entry)) (now (met .exit)) (r .fault) (r .cost) ⌝ }
 {
-    let fault = path_head_fault(t, at, copies);
+    let fault = path_head_fault(s, t, at, copies);
     if fault != 0 {
         return PathRecord { fault, cost: 0 };
     }
     let weight = path_weight(t, at);
-    let lb = path_length(t, at);
-    let b = path_vertices_at(at);
-    let walk = walk_path(s, first, t, b, lb, weight, vertex_totals, arc_totals);
+    let lb = path_length(s, t, at);
+    let b = path_vertices_at(s, at);
+    let walk = walk_path(s, first, roles, t, b, lb, weight, vertex_totals, arc_totals);
     if !walk.ok {
         return PathRecord { fault: 16, cost: 0 };
     }
@@ -387,19 +382,20 @@ impl Tally {
 // Reads the path records one after another. The totals, the reads met and the price are those of all paths where nothing is refused.
 pub fn read_paths(
     s: &[u8],
-    first: &[u16; Graph::MAX_VERTICES + 1],
+    first: &[u16; Graph::ROOM_VERTICES + 1],
+    roles: &[u8; Graph::ROOM_VERTICES],
     t: &[u8],
-    vertex_totals: &mut [usize; Graph::MAX_VERTICES],
-    arc_totals: &mut [usize; Graph::MAX_ARCS],
-    met: &mut [bool; Graph::MAX_READS],
+    vertex_totals: &mut [usize; Graph::ROOM_VERTICES],
+    arc_totals: &mut [usize; Graph::ROOM_ARCS],
+    met: &mut [bool; Graph::ROOM_READS],
 ) -> Tally
-    requires { ⌜ Reads (now s) × ArcTable (now s) (now first) × (firstPathAt (vertexCount (now s)) ≤ length (now t)) ⌝ }
+    requires { ⌜ Reads (now s) × ArcTable (now s) (now first) × Roles (now s) (now roles) × (firstPathAt (now s) ≤ length (now t)) ⌝ }
     requires { ⌜ NothingTallied (now «vertex_totals») (now «arc_totals») (now met) ⌝ }
     ensures { λ r. ⌜ PathsRead (now (s .entry)) (now (t .entry)) (now («vertex_totals» .exit)) (now («arc_totals» .exit)) (now (met .exit)) (r .number) (r .place) (r .price) ⌝ }
 {
     let opening = opening_price(s);
     let mut left = path_count(t);
-    let mut at = first_path_at(vertex_count(s));
+    let mut at = first_path_at(s);
     let mut p = 0;
     let mut lp = 0;
     let mut copies = 0;
@@ -408,6 +404,7 @@ pub fn read_paths(
         let path = read_path(
             s,
             first,
+            roles,
             t,
             at,
             p,
@@ -422,8 +419,8 @@ pub fn read_paths(
             return Tally::new(fault, at, 0);
         }
         let weight = path_weight(t, at);
-        lp = path_length(t, at);
-        p = path_vertices_at(at);
+        lp = path_length(s, t, at);
+        p = path_vertices_at(s, at);
         price += weight * (opening + path.cost);
         copies += weight;
         at = p + lp;

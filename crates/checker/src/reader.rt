@@ -1,6 +1,7 @@
 // The graph reader: every byte string is read to its first fault, in document 01's order, and no byte outside it.
 use forms::Found;
 use forms::Graph;
+use forms::Header;
 use forms::Verdict;
 use forms::arcs::find_arc;
 use forms::arcs::first_arcs;
@@ -13,75 +14,92 @@ use forms::fields::arc_demand;
 use forms::fields::arc_ends;
 use forms::fields::arc_head;
 use forms::fields::arc_tail;
+use forms::fields::first_arc_at;
 use forms::fields::first_read_at;
 use forms::fields::header_length;
 use forms::fields::length_word;
-use forms::fields::opening_price;
 use forms::fields::opening_price_at;
 use forms::fields::read_count;
 use forms::fields::read_count_at;
 use forms::fields::read_end;
 use forms::fields::read_length;
 use forms::fields::read_vertices_at;
-use forms::fields::version;
-use forms::fields::version_at;
 use forms::fields::vertex_at;
 use forms::fields::vertex_count;
-use forms::fields::vertex_count_at;
 use forms::fields::vertex_demand;
+use forms::fields::vertex_end;
 use forms::fields::vertex_flags;
+use forms::layout::max_arcs;
+use forms::layout::max_flag;
+use forms::layout::max_read_length;
+use forms::layout::max_reads;
+use forms::layout::max_vertices;
+use forms::layout::version;
 ghost use mathlib.Core.Path.{_≡_};
 ghost use Prim.Native.Nat.{_+_, _<_, _≤_};
 ghost use lib.ListN.{length};
-ghost use Rattle.forms.specs.GraphFaults.{headerVerdict, vertexFault, arcFault, firstFault, walks, readFault, then, arcsVerdict, readsVerdict, graphVerdict};
-ghost use Rattle.forms.specs.GraphForm.{vertexAt, vertexCount, arcAt, readCount, firstReadAt};
-ghost use Rattle.forms.specs.GraphOf.{arcsOf};
-ghost use Rattle.forms.specs.GraphReads.{HeaderRight};
 ghost use Rattle.forms.specs.ArcTable.{ArcTable, goesOn};
 ghost use Rattle.forms.specs.Bytes.{part};
-ghost use Rattle.forms.specs.Limits.{maxVertices, maxArcs};
+ghost use Rattle.forms.specs.GraphFaults.{headerVerdict, vertexFault, arcFault, firstFault, walks, readFault, then, arcsVerdict, readsVerdict, graphVerdict};
+ghost use Rattle.forms.specs.GraphForm.{headerLength, lengthWord, vertexAt, vertexCount, arcCount, firstArcAt, arcAt, readCount, openingPrice, firstReadAt};
+ghost use Rattle.forms.specs.GraphOf.{arcsOf};
+ghost use Rattle.forms.specs.GraphReads.{HeaderRight};
+ghost use Rattle.forms.specs.Layout.{version as versionOf, newest};
+ghost use Rattle.forms.specs.Limits.{roomVertices, roomArcs};
+
+// What is wrong with the counts and the opening price of a header whose length and version are right: 3 or 4.
+fn counts_verdict(s: &[u8], header: Header) -> Verdict
+    requires { ⌜ (headerLength (now s) ≤ length (now s)) × (lengthWord (now s) ≡ length (now s)) × (1 ≤ versionOf (now s)) × (versionOf (now s) ≤ newest) ⌝ }
+    requires { ⌜ (header .vertices ≡ vertexCount (now s)) × (header .arcs ≡ arcCount (now s)) × (header .reads ≡ readCount (now s)) × (header .opening ≡ openingPrice (now s)) ⌝ }
+    ensures { λ r. ⌜ r ≡ headerVerdict (now (s .entry)) ⌝ }
+{
+    if header.vertices == 0 {
+        return Verdict::new(3, Graph::AT_VERTICES);
+    }
+    if max_vertices(s) < header.vertices {
+        return Verdict::new(3, Graph::AT_VERTICES);
+    }
+    if max_arcs(s) < header.arcs {
+        return Verdict::new(3, arc_count_at(s));
+    }
+    if max_reads(s) < header.reads {
+        return Verdict::new(3, read_count_at(s));
+    }
+    if Graph::MAX_OPENING < header.opening {
+        return Verdict::new(4, opening_price_at(s));
+    }
+    Verdict::new(0, 0)
+}
 
 // What is wrong with the header: 1, 2, 3 or 4.
 fn header_verdict(s: &[u8]) -> Verdict
     ensures { λ r. ⌜ r ≡ headerVerdict (now (s .entry)) ⌝ }
 {
-    if s.len() < header_length() {
+    if s.len() < header_length(s) {
         return Verdict::new(1, 0);
     }
     if length_word(s) != s.len() {
         return Verdict::new(1, 0);
     }
-    if version(s) != 1 {
-        return Verdict::new(2, version_at());
+    let known = version(s);
+    if known == 0 {
+        return Verdict::new(2, Graph::AT_VERSION);
     }
-    let n = vertex_count(s);
-    if n == 0 {
-        return Verdict::new(3, vertex_count_at());
+    if Graph::NEWEST < known {
+        return Verdict::new(2, Graph::AT_VERSION);
     }
-    if Graph::MAX_VERTICES < n {
-        return Verdict::new(3, vertex_count_at());
-    }
-    if Graph::MAX_ARCS < arc_count(s) {
-        return Verdict::new(3, arc_count_at());
-    }
-    if Graph::MAX_READS < read_count(s) {
-        return Verdict::new(3, read_count_at());
-    }
-    if Graph::MAX_OPENING < opening_price(s) {
-        return Verdict::new(4, opening_price_at());
-    }
-    Verdict::new(0, 0)
+    counts_verdict(s, Header::of(s))
 }
 
 // What is wrong with the record of vertex v: 5, 4 or nothing.
 fn vertex_fault(s: &[u8], v: usize) -> usize
-    requires { ⌜ v < maxVertices ⌝ }
+    requires { ⌜ v < roomVertices ⌝ }
     ensures { λ r. ⌜ r ≡ vertexFault (now (s .entry)) v ⌝ }
 {
-    if s.len() < vertex_at(s, v + 1) {
+    if s.len() < vertex_end(s, v) {
         return 5;
     }
-    if vertex_flags(s, v) > 3 {
+    if vertex_flags(s, v) > max_flag(s) {
         return 4;
     }
     if vertex_demand(s, v) > Graph::MAX_DEMAND {
@@ -92,7 +110,7 @@ fn vertex_fault(s: &[u8], v: usize) -> usize
 
 // The first faulty one of count vertex records.
 fn vertices_verdict(s: &[u8], count: usize) -> Verdict
-    requires { ⌜ count ≤ maxVertices ⌝ }
+    requires { ⌜ count ≤ roomVertices ⌝ }
     ensures { λ r. ⌜ r ≡ firstFault (vertexFault (now (s .entry))) (vertexAt (now (s .entry))) count 0 ⌝ }
 {
     let mut v = 0;
@@ -107,21 +125,21 @@ fn vertices_verdict(s: &[u8], count: usize) -> Verdict
 }
 
 // What is wrong with the record of arc a, in a form with n vertices: 5, 4, 6 or nothing.
-fn arc_fault(s: &[u8], n: usize, a: usize) -> usize
-    requires { ⌜ (n ≡ vertexCount (now s)) × (n ≤ maxVertices) × (a < maxArcs) ⌝ }
+fn arc_fault(s: &[u8], n: usize, base: usize, a: usize) -> usize
+    requires { ⌜ (n ≡ vertexCount (now s)) × (base ≡ firstArcAt (now s)) × (n ≤ roomVertices) × (a < roomArcs) ⌝ }
     ensures { λ r. ⌜ r ≡ arcFault (now (s .entry)) (arcAt (now (s .entry)) a) ⌝ }
 {
-    if s.len() < arc_at(s, n, a + 1) {
+    if s.len() < arc_at(s, base, a + 1) {
         return 5;
     }
-    if Graph::MAX_COST < arc_cost(s, n, a) {
+    if Graph::MAX_COST < arc_cost(s, base, a) {
         return 4;
     }
-    if Graph::MAX_DEMAND < arc_demand(s, n, a) {
+    if Graph::MAX_DEMAND < arc_demand(s, base, a) {
         return 4;
     }
-    let head = arc_head(s, n, a);
-    if head <= arc_tail(s, n, a) {
+    let head = arc_head(s, base, a);
+    if head <= arc_tail(s, base, a) {
         return 6;
     }
     if n <= head {
@@ -130,7 +148,7 @@ fn arc_fault(s: &[u8], n: usize, a: usize) -> usize
     if a == 0 {
         return 0;
     }
-    if arc_ends(s, n, a) <= arc_ends(s, n, a - 1) {
+    if arc_ends(s, base, a) <= arc_ends(s, base, a - 1) {
         return 6;
     }
     0
@@ -138,14 +156,15 @@ fn arc_fault(s: &[u8], n: usize, a: usize) -> usize
 
 // The first faulty one of count arc records.
 fn arcs_verdict(s: &[u8], n: usize, count: usize) -> Verdict
-    requires { ⌜ (n ≡ vertexCount (now s)) × (n ≤ maxVertices) × (count ≤ maxArcs) ⌝ }
+    requires { ⌜ (headerLength (now s) ≤ length (now s)) × (n ≡ vertexCount (now s)) × (n ≤ roomVertices) × (count ≤ roomArcs) ⌝ }
     ensures { λ r. ⌜ r ≡ firstFault (λ a. arcFault (now (s .entry)) (arcAt (now (s .entry)) a)) (arcAt (now (s .entry))) count 0 ⌝ }
 {
+    let base = first_arc_at(s);
     let mut a = 0;
     while a < count {
-        let fault = arc_fault(s, n, a);
+        let fault = arc_fault(s, n, base, a);
         if fault != 0 {
-            return Verdict::new(fault, arc_at(s, n, a));
+            return Verdict::new(fault, arc_at(s, base, a));
         }
         a += 1;
     }
@@ -153,7 +172,7 @@ fn arcs_verdict(s: &[u8], n: usize, count: usize) -> Verdict
 }
 
 // Whether a walk may go on from vertex u to v: v is a vertex, and there is the arc.
-fn goes_on(s: &[u8], first: &[u16; Graph::MAX_VERTICES + 1], n: usize, u: usize, v: usize) -> bool
+fn goes_on(s: &[u8], first: &[u16; Graph::ROOM_VERTICES + 1], n: usize, u: usize, v: usize) -> bool
     requires { ⌜ ArcTable (now s) (now first) × (n ≡ vertexCount (now s)) × (u < n) ⌝ }
     ensures { λ r. ⌜ r ≡ goesOn (vertexCount (now (s .entry))) (arcsOf (now (s .entry))) u v ⌝ }
 {
@@ -169,7 +188,7 @@ fn goes_on(s: &[u8], first: &[u16; Graph::MAX_VERTICES + 1], n: usize, u: usize,
 // Whether count bytes of a form, from an offset on, are vertices of the graph s, each consecutive pair an arc.
 fn is_walk(
     s: &[u8],
-    first: &[u16; Graph::MAX_VERTICES + 1],
+    first: &[u16; Graph::ROOM_VERTICES + 1],
     form: &[u8],
     at: usize,
     count: usize,
@@ -196,18 +215,18 @@ fn is_walk(
 }
 
 // What is wrong with the read at an offset: 5, 7 or nothing.
-fn read_fault(s: &[u8], first: &[u16; Graph::MAX_VERTICES + 1], at: usize) -> usize
-    requires { ⌜ ArcTable (now s) (now first) ⌝ }
+fn read_fault(s: &[u8], first: &[u16; Graph::ROOM_VERTICES + 1], at: usize) -> usize
+    requires { ⌜ ArcTable (now s) (now first) × (at + 2 < 18446744073709551616) ⌝ }
     ensures { λ r. ⌜ r ≡ readFault (now (s .entry)) at ⌝ }
 {
-    if s.len() <= at {
+    if s.len() < read_vertices_at(s, at) {
         return 5;
     }
     let count = read_length(s, at);
     if count < Graph::MIN_READ {
         return 7;
     }
-    if Graph::MAX_READ < count {
+    if max_read_length(s) < count {
         return 7;
     }
     if s.len() < read_end(s, at) {
@@ -222,11 +241,11 @@ fn read_fault(s: &[u8], first: &[u16; Graph::MAX_VERTICES + 1], at: usize) -> us
 // The first faulty one of count reads, the first of them at an offset; then the bytes that remain.
 fn reads_verdict(
     s: &[u8],
-    first: &[u16; Graph::MAX_VERTICES + 1],
+    first: &[u16; Graph::ROOM_VERTICES + 1],
     count: usize,
     from: usize,
 ) -> Verdict
-    requires { ⌜ ArcTable (now s) (now first) ⌝ }
+    requires { ⌜ ArcTable (now s) (now first) × (from + 2 < 18446744073709551616) ⌝ }
     ensures { λ r. ⌜ r ≡ readsVerdict (now (s .entry)) count from ⌝ }
 {
     let mut at = from;

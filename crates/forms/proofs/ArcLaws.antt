@@ -10,19 +10,18 @@ use mathlib.Core.List.{List}
 use mathlib.Core.Bool.{Bool, true, false}
 use mathlib.Core.Logic.{⊎-elim}
 use lib.Dec.{ltb}
-use lib.ListN.{length, getD, set}
-use lib.Seq.{getD-set-same, getD-set-other}
+use lib.ListN.{length, getD}
 use borrow.Author.Tests.{eq-eqb, ne-eqb, ltb-true, ltb-false}
 use Rattle.mathematics.specs.Graph.{joins}
 use Rattle.mathematics.specs.Cover.{oneIf}
 use Rattle.forms.specs.declared.Found.{Found}
 use Rattle.forms.specs.declared.Found.the-variants.{At, Missing}
 use Rattle.forms.specs.Bytes.{tabulate}
-use Rattle.forms.specs.Limits.{maxVertices}
+use Rattle.forms.specs.Limits.{roomVertices}
 use Rattle.forms.specs.GraphForm.{arcCount, arcAt, arcTail, arcHead, arcLength}
 use Rattle.forms.specs.GraphOf.{arcOf, arcsOf}
 use Rattle.forms.specs.GraphReads.{ArcsRight}
-use Rattle.forms.specs.ArcTable.{numberFrom, arcNumber, tailsBelow, AsCounted, ArcTable}
+use Rattle.forms.specs.ArcTable.{numberFrom, arcNumber, tailsBelow, ArcsFrom, ArcTable}
 
 abbrev pub tailOf : List ℕ → ℕ → ℕ
 tailOf s a = arcTail s (arcAt s a)
@@ -91,7 +90,7 @@ module _ (s : List ℕ) where
     whole-cut u = cut u (arcCount s) 0 all-rise
 
 -- Counting the arcs whose tail is below u, from arc a on, where the arcs before a are counted.
-module _ (s : List ℕ) (n count u a : ℕ) (c : AsCounted s n count) (passed : a ≤ tailsBelow (arcsOf s) u) where
+module _ (s : List ℕ) (base count u a : ℕ) (c : ArcsFrom s base count) (passed : a ≤ tailsBelow (arcsOf s) u) where
   pub below-inside : a < count → arcAt s a + arcLength ≤ length s
   below-inside h = c .right .each a (omega (arith, c .arcs)) .whole
 
@@ -170,7 +169,7 @@ module _ (s : List ℕ) (u v : ℕ) where
   start = rw sub-zero
 
   -- where the table has u's first arc, and the first arc of the next vertex: between the two lie the arcs of tail u
-  module _ {first : List ℕ} (t : ArcTable s first) (u-low : u < maxVertices) where
+  module _ {first : List ℕ} (t : ArcTable s first) (u-low : u < roomVertices) where
     from-at : getD first u 0 ≡ tailsBelow (arcsOf s) u
     from-at = t .at u (omega arith)
 
@@ -213,23 +212,3 @@ module _ (s : List ℕ) (u v : ℕ) where
         skip-many (arcCount s - a) a (omega arith)
         (λ k b c same. omega (arith, whole-cut s (t .arcs) (u + 1) .high k (omega (arith, end-at)) (omega arith)))
         ∙ none (a + (arcCount s - a)) (omega arith)
-
--- The table of first arcs, filled up to u.
-pub record FilledTo (s first : List ℕ) (u : ℕ) : Type 0 where
-  pub each : (k : ℕ) → k < u → getD first k 0 ≡ tailsBelow (arcsOf s) k
-
-pub fill-none : {s first : List ℕ} → FilledTo s first 0
-fill-none = record { each = λ k h. absurd (omega arith) }
-
-pub fill-more : (s first : List ℕ) (u below : ℕ) → u < length first → FilledTo s first u → below ≡ tailsBelow (arcsOf s) u → FilledTo s (set first u below) (u + 1)
-fill-more s first u below fits filled e =
-    record {
-      each =
-          λ k h.
-          elim (decLe (suc k) u) [
-            | yes l ↦ getD-set-other first u k below 0 (λ q. omega arith) ∙ filled .each k l
-            | no l ↦
-                let same : u ≡ k = omega arith in
-                subst (λ j. getD (set first u below) j 0 ≡ tailsBelow (arcsOf s) j) same (getD-set-same first u below 0 fits ∙ e)
-          ];
-    }

@@ -1,5 +1,6 @@
 -- The graph that a form which reads stands for: no arc twice, well formed, costs hold, sizes within "Numbers allowed".
 use Prim.Native.Nat.{ℕ, zero, suc, _+_, _-_, _*_, _<_, _≤_, zero-le}
+use native.Mathlib.Nat.{mul-zero, mul-suc, mul-le-mul-left}
 use native.Mathlib.Omega.{arith}
 use mathlib.Core.Path.{_≡_, refl, sym, ap, subst, _∙_}
 use mathlib.Core.List.{List, map}
@@ -13,10 +14,12 @@ use Rattle.mathematics.specs.Price.{whole}
 use Rattle.mathematics.specs.Range.{CostsHold}
 use Rattle.mathematics.proofs.Basics.{all-map}
 use Rattle.forms.specs.Bytes.{part, tabulate}
-use Rattle.forms.specs.Limits.{maxReadLength, longestGraph}
-use Rattle.forms.specs.GraphForm.{vertexCount, arcCount, readCount, openingPrice, arcAt, arcTail, arcHead, arcCost, firstReadAt, readLength, readVertices, readEnd}
+use Rattle.forms.specs.Limits.{roomReadLength}
+use Rattle.forms.specs.Layout.{maxVertices, maxArcs, maxReads, maxReadLength, countBytes, longestGraph}
+use Rattle.forms.specs.GraphForm.{vertexCount, arcCount, readCount, openingPrice, vertexAt, arcLength, arcAt, arcTail, arcHead, arcCost, firstReadAt, readLength, readVertices, readEnd}
 use Rattle.forms.specs.GraphOf.{vertexOf, arcOf, arcsOf, readsFrom, graphOf}
-use Rattle.forms.specs.GraphReads.{Before, ReadRight, ReadsRight, ArcsRight, Reads, Within}
+use Rattle.forms.specs.GraphReads.{Before, ReadRight, ReadsRight, ArcsRight, Reads, Within, HasRoom}
+use Rattle.forms.proofs.LayoutLaws.{graph-longest, vertex-grows}
 
 -- a list made from numbers: its length, and what holds of each of its parts
 module _ {A : Type 0} (g : ℕ → A) where
@@ -103,7 +106,7 @@ graph-costs-hold s =
     }
 
 -- "Numbers allowed": vertices 1..64, arcs 0..256, reads 0..16 of 2 to 16 vertices, demands, costs and opening price in range
-pub graph-within : (s : List ℕ) → Reads s → Within (graphOf s)
+pub graph-within : (s : List ℕ) → Reads s → Within s (graphOf s)
 unfolding graphOf
 graph-within s r =
     let h = r .arcs .header in
@@ -119,16 +122,37 @@ graph-within s r =
           all-tabulate (arcOf s) _ (arcCount s) 0
           (λ a b c. record { number = arcCost s (arcAt s a); is = refl; low = r .arcs .each a (omega arith) .low-cost });
       short-reads =
-          all-reads s (λ vs. length vs ≤ maxReadLength) (λ at x. omega (arith, x .not-long, read-length s at x)) (readCount s) (firstReadAt s) (r .reads);
+          all-reads s (λ vs. length vs ≤ maxReadLength s) (λ at x. omega (arith, x .not-long, read-length s at x)) (readCount s) (firstReadAt s) (r .reads);
     }
 
--- a read's record has 17 bytes at most
-reads-fit : (s : List ℕ) (count at : ℕ) → ReadsRight s count at → length s ≤ at + 17 * count
-reads-fit s zero at r = omega arith
-reads-fit s (suc count) at r = omega (arith, r .0 .not-long, reads-fit s count (readEnd s at) (r .1))
+-- the tables have room for the graph
+pub graph-room : (s : List ℕ) → Reads s → HasRoom (graphOf s)
+unfolding graphOf
+graph-room s r =
+    let h = r .arcs .header in
+    record {
+      vertices = omega (arith, h .vertices-room, length-tabulate (vertexOf s) (vertexCount s) 0);
+      arcs = omega (arith, h .arcs-room, length-tabulate (arcOf s) (arcCount s) 0);
+      reads = omega (arith, h .reads-room, length-reads s (readCount s) (firstReadAt s));
+      each-read =
+          all-reads s (λ vs. length vs ≤ roomReadLength) (λ at x. omega (arith, x .room, read-length s at x)) (readCount s) (firstReadAt s) (r .reads);
+    }
+
+-- a read's record has the bytes of its count and of the most vertices at most
+reads-fit : (s : List ℕ) (count at : ℕ) → ReadsRight s count at → length s ≤ at + (countBytes s + maxReadLength s) * count
+reads-fit s zero at r = omega (arith, mul-zero (countBytes s + maxReadLength s))
+reads-fit s (suc count) at r =
+    omega (arith, r .0 .not-long, reads-fit s count (readEnd s at) (r .1), mul-suc (countBytes s + maxReadLength s) count)
 
 -- "The longest is 3,165 bytes."
-pub graph-fits : (s : List ℕ) → Reads s → length s ≤ longestGraph
+pub graph-fits : (s : List ℕ) → Reads s → length s ≤ longestGraph s
 graph-fits s r =
     let h = r .arcs .header in
-    omega (arith, h .few-vertices, h .few-arcs, h .few-reads, reads-fit s (readCount s) (firstReadAt s) (r .reads))
+    omega (
+      arith,
+      h .few-arcs,
+      vertex-grows s (vertexCount s) (maxVertices s) (h .few-vertices),
+      mul-le-mul-left (countBytes s + maxReadLength s) (h .few-reads),
+      reads-fit s (readCount s) (firstReadAt s) (r .reads),
+      graph-longest s,
+    )

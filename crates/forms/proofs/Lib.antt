@@ -1,4 +1,6 @@
 -- The laws that the proofs of the code cite, and facts of a form that reads.
+pub mod LayoutLaws
+pub mod Filling
 pub mod Scan
 pub mod ThenLaws
 pub mod PartLaws
@@ -9,4 +11,5 @@ pub mod WalkLaws
 pub mod RightLaws
 pub mod GraphFacts
 pub mod GraphRange
+pub mod RoleLaws
 pub mod Lookup

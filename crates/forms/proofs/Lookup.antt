@@ -15,7 +15,7 @@ use Rattle.mathematics.specs.Graph.{Arc, joins, hasArc}
 use Rattle.forms.specs.declared.Found.{Found}
 use Rattle.forms.specs.declared.Found.the-variants.{At, Missing}
 use Rattle.forms.specs.Bytes.{tabulate}
-use Rattle.forms.specs.Limits.{maxVertices}
+use Rattle.forms.specs.Limits.{roomVertices}
 use Rattle.forms.specs.GraphForm.{arcCount}
 use Rattle.forms.specs.GraphOf.{arcOf, arcsOf}
 use Rattle.forms.specs.GraphReads.{ArcsRight}
@@ -76,6 +76,6 @@ module _ (s : List ℕ) (u v : ℕ) where
       other j l false t g = refl
 
 -- any two tables of first arcs of a form are equal: the promise of `first_arcs` determines its result
-pub tables-agree : (s one other : List ℕ) → length one ≡ maxVertices + 1 → length other ≡ maxVertices + 1 → ArcTable s one → ArcTable s other → one ≡ other
+pub tables-agree : (s one other : List ℕ) → length one ≡ roomVertices + 1 → length other ≡ roomVertices + 1 → ArcTable s one → ArcTable s other → one ≡ other
 tables-agree s one other m n a b =
     ext-getD 0 one other (m ∙ sym n) (λ u h. a .at u (omega arith) ∙ sym (b .at u (omega arith)))

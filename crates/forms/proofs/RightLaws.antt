@@ -7,12 +7,14 @@ use mathlib.Core.List.{List, [], _∷_}
 use mathlib.Core.Bool.{Bool, true, false, cond, _&&_, _||_}
 use mathlib.Core.Logic.{_⊎_, inl, inr, ⊎-elim}
 use lib.Dec.{T, ltb, eqb}
-use borrow.Author.Tests.{ltb-true, ltb-false, leb-false, eqb-true, eqb-false, not-false, eq-eqb, ne-eqb, lt-ltb}
+use borrow.Author.Tests.{ltb-true, ltb-false, eqb-true, eqb-false, not-false, eq-eqb, ne-eqb, lt-ltb}
 use Rattle.mathematics.specs.Lists.{All}
 use Rattle.forms.specs.declared.Verdict.{Verdict}
-use Rattle.forms.specs.GraphForm.{vertexCount, arcCount, arcAt, arcTail, arcHead, readVertices}
+use Rattle.forms.specs.Layout.{version, maxVertices, maxArcs, maxReads, maxReadLength}
+use Rattle.forms.specs.GraphForm.{vertexCount, arcCount, readCount, arcAt, arcTail, arcHead, readLength, readVertices}
 use Rattle.forms.specs.GraphFaults.{refusal, nothingRefused, headerVerdict, firstFault, vertexFault, follows, ascends, arcFault, arcsVerdict, allBelow, walks, readFault}
 use Rattle.forms.specs.GraphReads.{HeaderRight, VertexRight, ArcRight, Before, ReadRight, ArcsRight}
+use Rattle.forms.proofs.LayoutLaws.{vertices-room, arcs-room, reads-room, read-length-room}
 
 no-fault : (t : Bool) (k x : ℕ) → cond t (suc k) x ≡ 0 → (t ≡ false) × (x ≡ 0)
 no-fault true k x e = absurd (omega arith)
@@ -41,22 +43,26 @@ pub header-holds : (s : List ℕ) → headerVerdict s .number ≡ 0 → HeaderRi
 unfolding headerVerdict
 header-holds s e =
     let a = no-refusal _ 0 0 _ e in
-    let b = no-refusal _ 1 4 _ (a .1) in
-    let c = no-refusal _ 2 5 _ (b .1) in
-    let d = no-refusal _ 2 6 _ (c .1) in
-    let f = no-refusal _ 2 8 _ (d .1) in
-    let g = no-refusal _ 3 9 _ (f .1) in
+    let b = no-refusal _ 1 _ _ (a .1) in
+    let c = no-refusal _ 2 _ _ (b .1) in
+    let d = no-refusal _ 2 _ _ (c .1) in
+    let f = no-refusal _ 2 _ _ (d .1) in
+    let g = no-refusal _ 3 _ _ (f .1) in
     let long = neither _ _ (a .0) in
+    let known = neither _ _ (b .0) in
     let some = neither _ _ (c .0) in
     record {
       long = ltb-false _ _ (long .0);
       counted = eqb-true _ _ (not-false _ (long .1));
-      first-version = eqb-true _ _ (not-false _ (b .0));
+      known-version = (not-none (version s) (known .0), ltb-false _ _ (known .1));
       some-vertex = not-none (vertexCount s) (some .0);
       few-vertices = ltb-false _ _ (some .1);
       few-arcs = ltb-false _ _ (d .0);
       few-reads = ltb-false _ _ (f .0);
       low-opening = ltb-false _ _ (g .0);
+      vertices-room = omega (arith, ltb-false (maxVertices s) (vertexCount s) (some .1), vertices-room s);
+      arcs-room = omega (arith, ltb-false (maxArcs s) (arcCount s) (d .0), arcs-room s);
+      reads-room = omega (arith, ltb-false (maxReads s) (readCount s) (f .0), reads-room s);
     }
 
 pub vertex-holds : (s : List ℕ) (v : ℕ) → vertexFault s v ≡ 0 → VertexRight s v
@@ -126,9 +132,10 @@ read-holds s at e =
     let d = neither _ _ (b .0) in
     let f = both _ _ (passes _ 6 (c .1)) in
     record {
-      begins = leb-false _ _ (a .0);
+      begins = ltb-false _ _ (a .0);
       not-short = ltb-false _ _ (d .0);
       not-long = ltb-false _ _ (d .1);
+      room = omega (arith, ltb-false (maxReadLength s) (readLength s at) (d .1), read-length-room s);
       whole = ltb-false _ _ (c .0);
       inside = below-all (vertexCount s) (readVertices s at) (f .0);
       arcs = subst T (sym (f .1)) tt;

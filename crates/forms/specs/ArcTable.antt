@@ -10,8 +10,8 @@ use Rattle.mathematics.specs.Graph.{Arc, joins, hasArc}
 use Rattle.mathematics.specs.Cover.{oneIf}
 use Rattle.forms.specs.declared.Found.{Found}
 use Rattle.forms.specs.declared.Found.the-variants.{At, Missing}
-use Rattle.forms.specs.Limits.{maxVertices}
-use Rattle.forms.specs.GraphForm.{vertexCount, arcCount, arcAt, arcTail, arcHead}
+use Rattle.forms.specs.Limits.{roomVertices}
+use Rattle.forms.specs.GraphForm.{firstArcAt, arcCount, arcAt, arcTail, arcHead}
 use Rattle.forms.specs.GraphOf.{arcsOf}
 use Rattle.forms.specs.GraphReads.{ArcsRight}
 
@@ -37,13 +37,13 @@ unfoldable pub tailsBelow : List (Arc ℤ) → ℕ → ℕ
 tailsBelow [] u = 0
 tailsBelow (a ∷ arcs) u = oneIf (ltb (a .tail) u) + tailsBelow arcs u
 
--- n and count are the numbers of vertices and arcs of a form whose arcs are right
-pub record AsCounted (s : List ℕ) (n count : ℕ) : Type 0 where
+-- base is the place of the first arc of a form whose arcs are right, and count the number of its arcs
+pub record ArcsFrom (s : List ℕ) (base count : ℕ) : Type 0 where
   pub right : ArcsRight s
-  pub vertices : n ≡ vertexCount s
+  pub first : base ≡ firstArcAt s
   pub arcs : count ≡ arcCount s
 
 -- the table of first arcs of a form whose arcs are right: at u the number of arcs whose tail is below u, which is the number of u's own first arc
 pub record ArcTable (s first : List ℕ) : Type 0 where
   pub arcs : ArcsRight s
-  pub at : (u : ℕ) → u ≤ maxVertices → getD first u 0 ≡ tailsBelow (arcsOf s) u
+  pub at : (u : ℕ) → u ≤ roomVertices → getD first u 0 ≡ tailsBelow (arcsOf s) u

@@ -9,13 +9,13 @@ use Rattle.mathematics.specs.Graph.{Graph}
 use Rattle.mathematics.specs.Cover.{Ask, vert, asks}
 use Rattle.mathematics.specs.Reach.{readLies, askLies}
 use Rattle.forms.specs.declared.Verdict.{Verdict}
-use Rattle.forms.specs.Limits.{longestAnswer}
+use Rattle.forms.specs.Layout.{longestAnswer}
 use Rattle.forms.specs.GraphOf.{graphOf}
 use Rattle.forms.specs.GraphFaults.{refusal, nothingRefused, graphVerdict}
 
 -- 9: "builder: lent output shorter than 32,543 bytes"
-abbrev pub roomAsked : ℕ
-roomAsked = longestAnswer
+abbrev pub roomAsked : List ℕ → ℕ
+roomAsked s = longestAnswer s
 
 -- what stands for an item that is not there: it asks for nothing
 abbrev pub noAsk : Ask
@@ -34,12 +34,13 @@ readsLieVerdict G k (r ∷ more) after =
     let rest = readsLieVerdict G (suc k) more after in
     cond (readLies G r) rest (refusal 8 k)
 
--- what the builder answers for a graph that reads and an output of `room` bytes: 8, then 9
-unfoldable pub coverVerdict : Graph ℤ → ℕ → Verdict
-coverVerdict G room =
+-- what the builder answers for a graph form that reads and an output of `room` bytes: 8, then 9
+unfoldable pub coverVerdict : List ℕ → ℕ → Verdict
+coverVerdict s room =
+    let G = graphOf s in
     asksLieVerdict G 0 (asks G)
     (readsLieVerdict G (length (G .vertices) + length (G .arcs)) (G .reads)
-    (cond (ltb room roomAsked) (refusal 9 0) nothingRefused))
+    (cond (ltb room (roomAsked s)) (refusal 9 0) nothingRefused))
 
 unfoldable pub buildVerdict : List ℕ → ℕ → Verdict
-buildVerdict s room = cond (eqb (graphVerdict s .number) 0) (coverVerdict (graphOf s) room) (graphVerdict s)
+buildVerdict s room = cond (eqb (graphVerdict s .number) 0) (coverVerdict s room) (graphVerdict s)

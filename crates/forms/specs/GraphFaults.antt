@@ -3,13 +3,14 @@
 use Prim.Native.Nat.{ℕ, zero, suc, _+_, _-_}
 use mathlib.Core.List.{List, [], _∷_}
 use mathlib.Core.Bool.{Bool, true, cond, not, _&&_, _||_}
-use lib.Dec.{ltb, leb, eqb}
+use lib.Dec.{ltb, eqb}
 use lib.ListN.{length}
 use lib.IntN.{ℤ}
 use Rattle.mathematics.specs.Graph.{Arc, linked}
 use Rattle.forms.specs.declared.Verdict.{Verdict}
-use Rattle.forms.specs.Limits.{maxVertices, maxArcs, maxReads, maxOpening, maxCost, maxDemand, minReadLength, maxReadLength}
-use Rattle.forms.specs.GraphForm.{headerLength, lengthWord, version, vertexCount, arcCount, readCount, openingPrice, vertexLength, vertexAt, flags, vertexDemand, arcLength, arcAt, arcTail, arcHead, arcCost, arcDemand, firstReadAt, readLength, readVertices, readEnd}
+use Rattle.forms.specs.Limits.{maxOpening, maxCost, maxDemand, minReadLength}
+use Rattle.forms.specs.Layout.{versionAt, version, newest, maxVertices, maxArcs, maxReads, maxReadLength, maxFlag, vertexLength}
+use Rattle.forms.specs.GraphForm.{headerLength, lengthWord, vertexCountAt, vertexCount, arcCountAt, arcCount, readCountAt, readCount, openingPriceAt, openingPrice, vertexAt, flags, vertexDemand, arcLength, arcAt, arcTail, arcHead, arcCost, arcDemand, firstReadAt, readLength, readVerticesAt, readVertices, readEnd}
 use Rattle.forms.specs.GraphOf.{arcsOf}
 
 -- "Each answer holds number and place; both are 0 where nothing is refused."
@@ -36,18 +37,18 @@ firstFault fault place (suc count) i = orElse (fault i) (place i) (firstFault fa
 -- reads)", place "5, 6 or 8, the first such"; 4: opening price out of range, place 9
 unfoldable pub headerVerdict : List ℕ → Verdict
 headerVerdict s =
-    cond (ltb (length s) headerLength || not (eqb (lengthWord s) (length s))) (refusal 1 0)
-    (cond (not (eqb (version s) 1)) (refusal 2 4)
-    (cond (eqb (vertexCount s) 0 || ltb maxVertices (vertexCount s)) (refusal 3 5)
-    (cond (ltb maxArcs (arcCount s)) (refusal 3 6)
-    (cond (ltb maxReads (readCount s)) (refusal 3 8)
-    (cond (ltb maxOpening (openingPrice s)) (refusal 4 9) nothingRefused)))))
+    cond (ltb (length s) (headerLength s) || not (eqb (lengthWord s) (length s))) (refusal 1 0)
+    (cond (eqb (version s) 0 || ltb newest (version s)) (refusal 2 versionAt)
+    (cond (eqb (vertexCount s) 0 || ltb (maxVertices s) (vertexCount s)) (refusal 3 vertexCountAt)
+    (cond (ltb (maxArcs s) (arcCount s)) (refusal 3 (arcCountAt s))
+    (cond (ltb (maxReads s) (readCount s)) (refusal 3 (readCountAt s))
+    (cond (ltb maxOpening (openingPrice s)) (refusal 4 (openingPriceAt s)) nothingRefused)))))
 
 -- 5: "a record runs past the end"; 4: "flag, demand or cost out of range". "Within a vertex or arc record: 5, 4, 6."
 unfoldable pub vertexFault : List ℕ → ℕ → ℕ
 vertexFault s v =
-    cond (ltb (length s) (vertexAt s v + vertexLength)) 5
-    (cond (ltb 3 (flags s v) || ltb maxDemand (vertexDemand s v)) 4 0)
+    cond (ltb (length s) (vertexAt s v + vertexLength s)) 5
+    (cond (ltb (maxFlag s) (flags s v) || ltb maxDemand (vertexDemand s v)) 4 0)
 
 -- "strictly ascending by tail, then head": the arc at an offset comes after the arc at another
 abbrev pub follows : List ℕ → ℕ → ℕ → Bool
@@ -77,8 +78,8 @@ walks n arcs vs = allBelow n vs && linked arcs vs
 -- 7: "read count not 2..16, vertex not below n, or pair without arc". "Within a read: missing count byte 5, bad count 7, past the end 5, then the rest of 7."
 unfoldable pub readFault : List ℕ → ℕ → ℕ
 readFault s at =
-    cond (leb (length s) at) 5
-    (cond (ltb (readLength s at) minReadLength || ltb maxReadLength (readLength s at)) 7
+    cond (ltb (length s) (readVerticesAt s at)) 5
+    (cond (ltb (readLength s at) minReadLength || ltb (maxReadLength s) (readLength s at)) 7
     (cond (ltb (length s) (readEnd s at)) 5
     (cond (walks (vertexCount s) (arcsOf s) (readVertices s at)) 0 7)))
 

@@ -8,25 +8,30 @@ use lib.IntN.{ℤ, pos}
 use lib.ListN.{length}
 use Rattle.mathematics.specs.Lists.{All}
 use Rattle.mathematics.specs.Graph.{Graph, linked}
-use Rattle.forms.specs.Limits.{maxVertices, maxArcs, maxReads, maxOpening, maxCost, maxDemand, minReadLength, maxReadLength}
-use Rattle.forms.specs.GraphForm.{headerLength, lengthWord, version, vertexCount, arcCount, readCount, openingPrice, vertexLength, vertexAt, flags, vertexDemand, arcLength, arcAt, arcTail, arcHead, arcCost, arcDemand, firstReadAt, readLength, readVertices, readEnd}
+use Rattle.forms.specs.Limits.{maxOpening, maxCost, maxDemand, minReadLength, roomVertices, roomArcs, roomReads, roomReadLength}
+use Rattle.forms.specs.Layout.{version, newest, maxVertices, maxArcs, maxReads, maxReadLength, maxFlag, vertexLength}
+use Rattle.forms.specs.GraphForm.{headerLength, lengthWord, vertexCount, arcCount, readCount, openingPrice, vertexAt, flags, vertexDemand, arcLength, arcAt, arcTail, arcHead, arcCost, arcDemand, firstReadAt, readLength, readVerticesAt, readVertices, readEnd}
 use Rattle.forms.specs.GraphOf.{arcsOf}
 
--- "length (4 bytes), version (1), n (1), number of arcs (2), number of reads (1), opening price (4): 13 bytes", and "Numbers allowed"
+-- "length (4 bytes), version (1), n (1), number of arcs (2), number of reads (1), opening price (4): 13 bytes", and "Numbers allowed". The last three follow from
+-- the limits: the tables have room for what any version allows.
 pub record HeaderRight (s : List ℕ) : Type 0 where
-  pub long : headerLength ≤ length s
+  pub long : headerLength s ≤ length s
   pub counted : lengthWord s ≡ length s
-  pub first-version : version s ≡ 1
+  pub known-version : (1 ≤ version s) × (version s ≤ newest)
   pub some-vertex : 1 ≤ vertexCount s
-  pub few-vertices : vertexCount s ≤ maxVertices
-  pub few-arcs : arcCount s ≤ maxArcs
-  pub few-reads : readCount s ≤ maxReads
+  pub few-vertices : vertexCount s ≤ maxVertices s
+  pub few-arcs : arcCount s ≤ maxArcs s
+  pub few-reads : readCount s ≤ maxReads s
   pub low-opening : openingPrice s ≤ maxOpening
+  pub vertices-room : vertexCount s ≤ roomVertices
+  pub arcs-room : arcCount s ≤ roomArcs
+  pub reads-room : readCount s ≤ roomReads
 
 -- "per vertex a flag byte (1 start, 2 end, 3 both, 0 neither) and demand (4)"
 pub record VertexRight (s : List ℕ) (v : ℕ) : Type 0 where
-  pub whole : vertexAt s v + vertexLength ≤ length s
-  pub a-flag : flags s v ≤ 3
+  pub whole : vertexAt s v + vertexLength s ≤ length s
+  pub a-flag : flags s v ≤ maxFlag s
   pub low-demand : vertexDemand s v ≤ maxDemand
 
 -- "per arc tail (1), head (1), cost (4), demand (4)", tail < head < n
@@ -41,11 +46,12 @@ pub record ArcRight (s : List ℕ) (at : ℕ) : Type 0 where
 abbrev pub Before : List ℕ → ℕ → ℕ → Type 0
 Before s a b = (arcTail s a < arcTail s b) ⊎ ((arcTail s a ≡ arcTail s b) × (arcHead s a < arcHead s b))
 
--- "A read (subpath constraint) is 2 to 16 vertices, each consecutive pair an arc."
+-- "A read (subpath constraint) is 2 to 16 vertices, each consecutive pair an arc." That the tables have room for it follows.
 pub record ReadRight (s : List ℕ) (at : ℕ) : Type 0 where
-  pub begins : at < length s
+  pub begins : readVerticesAt s at ≤ length s
   pub not-short : minReadLength ≤ readLength s at
-  pub not-long : readLength s at ≤ maxReadLength
+  pub not-long : readLength s at ≤ maxReadLength s
+  pub room : readLength s at ≤ roomReadLength
   pub whole : readEnd s at ≤ length s
   pub inside : All (λ v. v < vertexCount s) (readVertices s at)
   pub arcs : T (linked (arcsOf s) (readVertices s at))
@@ -73,14 +79,21 @@ pub record AtMost (limit : ℕ) (x : ℤ) : Type 0 where
   pub is : x ≡ pos number
   pub low : number ≤ limit
 
--- "Numbers allowed", of the graph that a form stands for
-pub record Within (G : Graph ℤ) : Type 0 where
+-- "Numbers allowed", of the graph G that the form s stands for
+pub record Within (s : List ℕ) (G : Graph ℤ) : Type 0 where
   pub some-vertex : 1 ≤ length (G .vertices)
-  pub few-vertices : length (G .vertices) ≤ maxVertices
-  pub few-arcs : length (G .arcs) ≤ maxArcs
-  pub few-reads : length (G .reads) ≤ maxReads
+  pub few-vertices : length (G .vertices) ≤ maxVertices s
+  pub few-arcs : length (G .arcs) ≤ maxArcs s
+  pub few-reads : length (G .reads) ≤ maxReads s
   pub low-opening : AtMost maxOpening (G .opening)
   pub vertex-demands : All (λ v. v .demand ≤ maxDemand) (G .vertices)
   pub arc-demands : All (λ a. a .demand ≤ maxDemand) (G .arcs)
   pub arc-costs : All (λ a. AtMost maxCost (a .cost)) (G .arcs)
-  pub short-reads : All (λ r. length r ≤ maxReadLength) (G .reads)
+  pub short-reads : All (λ r. length r ≤ maxReadLength s) (G .reads)
+
+-- what the tables hold of a graph: every form that reads, of whatever version, has room in them
+pub record HasRoom (G : Graph ℤ) : Type 0 where
+  pub vertices : length (G .vertices) ≤ roomVertices
+  pub arcs : length (G .arcs) ≤ roomArcs
+  pub reads : length (G .reads) ≤ roomReads
+  pub each-read : All (λ r. length r ≤ roomReadLength) (G .reads)

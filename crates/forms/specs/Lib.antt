@@ -1,5 +1,6 @@
 pub mod Bytes
 pub mod Limits
+pub mod Layout
 pub mod GraphForm
 pub mod GraphFaults
 pub mod GraphOf
@@ -8,4 +9,5 @@ pub mod AnswerFaults
 pub mod BuildFaults
 pub mod GraphReads
 pub mod ArcTable
-pub mod Empty
+pub mod Roles
+pub mod Values

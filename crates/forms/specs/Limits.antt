@@ -1,16 +1,8 @@
--- Document 01, "Numbers allowed". The code has them as constants of the graph and answer types; that each is the number here is proved.
+-- Document 01, "Numbers allowed": the limits that are the same in every version (Layout has the others), and how much room the library's tables have.
+-- The code has them as constants of the graph and answer types; that each is the number here is proved.
 use Prim.Native.Nat.{ℕ}
 
--- "Vertices 1..64, arcs 0..256, reads 0..16, opening price 0..1,000,000,000, arc cost 0..1,000,000, demand of a vertex or arc 0..1,000,000."
-abbrev pub maxVertices : ℕ
-maxVertices = 64
-
-abbrev pub maxArcs : ℕ
-maxArcs = 256
-
-abbrev pub maxReads : ℕ
-maxReads = 16
-
+-- "opening price 0..1,000,000,000, arc cost 0..1,000,000, demand of a vertex or arc 0..1,000,000"
 abbrev pub maxOpening : ℕ
 maxOpening = 1_000_000_000
 
@@ -24,27 +16,22 @@ maxDemand = 1_000_000
 abbrev pub minReadLength : ℕ
 minReadLength = 2
 
-abbrev pub maxReadLength : ℕ
-maxReadLength = 16
-
--- "The longest is 3,165 bytes."
-abbrev pub longestGraph : ℕ
-longestGraph = 3165
-
--- "In an answer: paths 0..464 (64+256+64+64+16), weights totalling at most 320,000,016, marks -2,000,000,000..2,000,000,000."
-abbrev pub maxPaths : ℕ
-maxPaths = 464
-
-abbrev pub maxWeight : ℕ
-maxWeight = 320_000_016
-
+-- "marks -2,000,000,000..2,000,000,000"
 abbrev pub markLimit : ℕ
 markLimit = 2_000_000_000
 
--- "vertex count 1..64"
-abbrev pub maxPathLength : ℕ
-maxPathLength = 64
+-- How many vertices, arcs, reads, vertices of a read and paths the tables hold: as many as any version that reads allows. No refusal depends on them.
+abbrev pub roomVertices : ℕ
+roomVertices = 64
 
--- "Answer: .. The longest is 32,543 bytes."
-abbrev pub longestAnswer : ℕ
-longestAnswer = 32543
+abbrev pub roomArcs : ℕ
+roomArcs = 256
+
+abbrev pub roomReads : ℕ
+roomReads = 16
+
+abbrev pub roomReadLength : ℕ
+roomReadLength = 16
+
+abbrev pub roomPaths : ℕ
+roomPaths = 464

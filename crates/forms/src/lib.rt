@@ -3,14 +3,28 @@
 pub mod arcs;
 pub mod bytes;
 pub mod fields;
+pub mod layout;
 pub mod marks;
+pub mod roles;
 
+use crate::arcs::first_arcs;
+use crate::fields::arc_count;
+use crate::fields::opening_price;
+use crate::fields::path_count;
+use crate::fields::read_count;
+use crate::fields::stated_price;
+use crate::fields::vertex_count;
 ghost use mathlib.Core.Path.{_≡_};
+ghost use mathlib.Core.List.{List};
+ghost use Prim.Native.Nat.{ℕ, _≤_};
+ghost use lib.ListN.{length};
 ghost use Rattle.forms.specs.GraphFaults.{refusal};
-ghost use Rattle.forms.specs.Limits.{maxVertices, maxArcs, maxReads, maxOpening, maxCost, maxDemand, minReadLength, maxReadLength, longestGraph, maxPaths, maxWeight, markLimit, maxPathLength, longestAnswer};
-ghost use Rattle.forms.specs.GraphForm.{headerLength, vertexLength, arcLength};
-ghost use Rattle.forms.specs.AnswerForm.{answerHeaderLength, markLength, pathHeaderLength};
-ghost use Rattle.forms.specs.Empty.{emptyHeader, emptyGraph, emptyAnswer};
+ghost use Rattle.forms.specs.Limits.{maxOpening, maxCost, maxDemand, minReadLength, markLimit, roomVertices, roomArcs, roomReads, roomPaths};
+ghost use Rattle.forms.specs.Layout.{versionAt, newest, longestGraph};
+ghost use Rattle.forms.specs.GraphForm.{headerLength, vertexCountAt, arcLength};
+ghost use Rattle.forms.specs.AnswerForm.{answerVersionAt, pathCountAt, priceAt, answerHeaderLength, markPartLength};
+ghost use Rattle.forms.specs.GraphReads.{ArcsRight};
+ghost use Rattle.forms.specs.Values.{emptyHeader, headerOf, emptyGraph, GraphIs, emptyAnswer, answerOf};
 
 // What a call answers where an input may be turned down: the refusal's number and its place; both are 0 where nothing is refused.
 pub struct Verdict {
@@ -52,16 +66,29 @@ impl Header {
             opening: 0,
         }
     }
+
+    // The header of a graph form.
+    pub fn of(s: &[u8]) -> Header
+        requires { ⌜ headerLength (now s) ≤ length (now s) ⌝ }
+        ensures { λ r. ⌜ r ≡ headerOf (now (s .entry)) ⌝ }
+    {
+        let mut header = Header::empty();
+        header.vertices = vertex_count(s);
+        header.arcs = arc_count(s);
+        header.reads = read_count(s);
+        header.opening = opening_price(s);
+        header
+    }
 }
 
 // A graph form that reads: its header, and for each vertex the number of its first arc.
 pub struct Graph {
     pub header: Header,
-    pub first: [u16; Graph::MAX_VERTICES + 1],
+    pub first: [u16; Graph::ROOM_VERTICES + 1],
 }
 
 impl Graph {
-    // Document 01, "Numbers allowed".
+    // Document 01, "Numbers allowed". Those that a version fixes are given, as the definitions have them, by the functions of `layout`.
     pub const MAX_VERTICES: usize = 64;
 
     pub const MAX_ARCS: usize = 256;
@@ -77,10 +104,14 @@ impl Graph {
     pub const MIN_READ: usize = 2;
 
     pub const MAX_READ: usize = 16;
-    // Document 01, "The two forms": how long the header, a vertex's record, an arc's record and the longest form are, and where the header's values stand.
-    pub const HEADER: usize = 13;
+    // How many vertices, arcs and reads the tables have room for.
+    pub const ROOM_VERTICES: usize = 64;
 
-    pub const VERTEX: usize = 5;
+    pub const ROOM_ARCS: usize = 256;
+
+    pub const ROOM_READS: usize = 16;
+    // Document 01, "The two forms": the newest version, how long an arc's record and the longest form are, and where version and number of vertices stand.
+    pub const NEWEST: usize = 1;
 
     pub const ARC: usize = 10;
 
@@ -90,23 +121,30 @@ impl Graph {
 
     pub const AT_VERTICES: usize = 5;
 
-    pub const AT_ARCS: usize = 6;
-
-    pub const AT_READS: usize = 8;
-
-    pub const AT_OPENING: usize = 9;
-
-    // The graph with nothing in it. The limits are the definitions' own.
+    // The graph with nothing in it. The numbers that are the same in every version are the definitions' own.
     pub fn empty() -> Graph
         ensures { λ r. ⌜ r ≡ emptyGraph ⌝ }
-        ensures counts { λ r. do ⌜ ((← ⟦Graph::MAX_VERTICES⟧ .entry) ≡ maxVertices) × ((← ⟦Graph::MAX_ARCS⟧ .entry) ≡ maxArcs) × ((← ⟦Graph::MAX_READS⟧ .entry) ≡ maxReads) ⌝ }
-        ensures numbers { λ r. do ⌜ ((← ⟦Graph::MAX_OPENING⟧ .entry) ≡ maxOpening) × ((← ⟦Graph::MAX_COST⟧ .entry) ≡ maxCost) × ((← ⟦Graph::MAX_DEMAND⟧ .entry) ≡ maxDemand) ⌝ }
-        ensures lengths { λ r. do ⌜ ((← ⟦Graph::MIN_READ⟧ .entry) ≡ minReadLength) × ((← ⟦Graph::MAX_READ⟧ .entry) ≡ maxReadLength) × ((← ⟦Graph::LONGEST⟧ .entry) ≡ longestGraph) ⌝ }
-        ensures records { λ r. do ⌜ ((← ⟦Graph::HEADER⟧ .entry) ≡ headerLength) × ((← ⟦Graph::VERTEX⟧ .entry) ≡ vertexLength) × ((← ⟦Graph::ARC⟧ .entry) ≡ arcLength) ⌝ }
+        ensures numbers { λ r. do ⌜ ((← ⟦Graph::MAX_OPENING⟧ .entry) ≡ maxOpening) × ((← ⟦Graph::MAX_COST⟧ .entry) ≡ maxCost) × ((← ⟦Graph::MAX_DEMAND⟧ .entry) ≡ maxDemand) × ((← ⟦Graph::MIN_READ⟧ .entry) ≡ minReadLength) ⌝ }
+        ensures rooms { λ r. do ⌜ ((← ⟦Graph::ROOM_VERTICES⟧ .entry) ≡ roomVertices) × ((← ⟦Graph::ROOM_ARCS⟧ .entry) ≡ roomArcs) × ((← ⟦Graph::ROOM_READS⟧ .entry) ≡ roomReads) ⌝ }
+        ensures places { λ r. do ⌜ ((← ⟦Graph::AT_VERSION⟧ .entry) ≡ versionAt) × ((← ⟦Graph::AT_VERTICES⟧ .entry) ≡ vertexCountAt) × ((← ⟦Graph::ARC⟧ .entry) ≡ arcLength) × ((← ⟦Graph::NEWEST⟧ .entry) ≡ newest) ⌝ }
+        ensures longest { λ r. do n ← ⟦Graph::LONGEST⟧ .entry; ⌜ ((s : List ℕ) → n ≡ longestGraph s) ⌝ }
     {
         let header = Header::empty();
-        let first = [0; Graph::MAX_VERTICES + 1];
+        let first = [0; Graph::ROOM_VERTICES + 1];
         Graph { header, first }
+    }
+
+    // The header and the table of first arcs of a graph form.
+    pub fn of(s: &[u8]) -> Graph
+        requires { ⌜ ArcsRight (now s) ⌝ }
+        ensures { λ r. ⌜ GraphIs (now (s .entry)) r ⌝ }
+    {
+        let mut graph = Graph::empty();
+        let header = Header::of(s);
+        let first = first_arcs(s);
+        graph.header = header;
+        graph.first = first;
+        graph
     }
 }
 
@@ -117,7 +155,7 @@ pub struct Answer {
 }
 
 impl Answer {
-    // Document 01, "Numbers allowed", "In an answer".
+    // Document 01, "Numbers allowed", "In an answer". Those that a version fixes are given by the functions of `layout`.
     pub const MAX_PATHS: usize = 464;
 
     pub const MAX_WEIGHT: usize = 320_000_016;
@@ -125,19 +163,12 @@ impl Answer {
     pub const MARK_LIMIT: usize = 2_000_000_000;
 
     pub const MAX_PATH: usize = 64;
-    // Document 01, "The two forms": how long the header, a mark, a vertex's marks, a weight, the head of a path's record and the longest form are,
-    // and where version, number of paths and price stand.
-    pub const HEADER: usize = 15;
-
-    pub const MARK: usize = 4;
-
-    pub const MARKS: usize = 8;
-
-    pub const WEIGHT: usize = 4;
-
-    pub const PATH: usize = 5;
-
+    // How many paths the tables have room for.
+    pub const ROOM_PATHS: usize = 464;
+    // Document 01, "The two forms": how long the longest form and a number of a mark are, and where version, number of paths and price stand.
     pub const LONGEST: usize = 32_543;
+
+    pub const MARK_PART: usize = 4;
 
     pub const AT_VERSION: usize = 4;
 
@@ -145,13 +176,23 @@ impl Answer {
 
     pub const AT_PRICE: usize = 7;
 
-    // The answer with nothing in it. The limits are the definitions' own.
+    // The answer with nothing in it. The numbers that are the same in every version are the definitions' own.
     pub fn empty() -> Answer
         ensures { λ r. ⌜ r ≡ emptyAnswer ⌝ }
-        ensures limits { λ r. do ⌜ ((← ⟦Answer::MAX_PATHS⟧ .entry) ≡ maxPaths) × ((← ⟦Answer::MAX_WEIGHT⟧ .entry) ≡ maxWeight) × ((← ⟦Answer::MARK_LIMIT⟧ .entry) ≡ markLimit) × ((← ⟦Answer::LONGEST⟧ .entry) ≡ longestAnswer) ⌝ }
-        ensures path { λ r. do ⌜ (← ⟦Answer::MAX_PATH⟧ .entry) ≡ maxPathLength ⌝ }
-        ensures records { λ r. do ⌜ ((← ⟦Answer::HEADER⟧ .entry) ≡ answerHeaderLength) × ((← ⟦Answer::MARK⟧ .entry) ≡ markLength) × ((← ⟦Answer::PATH⟧ .entry) ≡ pathHeaderLength) ⌝ }
+        ensures numbers { λ r. do ⌜ ((← ⟦Answer::MARK_LIMIT⟧ .entry) ≡ markLimit) × ((← ⟦Answer::ROOM_PATHS⟧ .entry) ≡ roomPaths) ⌝ }
+        ensures places { λ r. do ⌜ ((← ⟦Answer::AT_VERSION⟧ .entry) ≡ answerVersionAt) × ((← ⟦Answer::AT_PATHS⟧ .entry) ≡ pathCountAt) × ((← ⟦Answer::AT_PRICE⟧ .entry) ≡ priceAt) × ((← ⟦Answer::MARK_PART⟧ .entry) ≡ markPartLength) ⌝ }
     {
         Answer { paths: 0, price: 0 }
+    }
+
+    // The header of an answer form to the graph s.
+    pub fn of(s: &[u8], t: &[u8]) -> Answer
+        requires { ⌜ answerHeaderLength (now s) ≤ length (now t) ⌝ }
+        ensures { λ r. ⌜ r ≡ answerOf (now (s .entry)) (now (t .entry)) ⌝ }
+    {
+        let mut answer = Answer::empty();
+        answer.paths = path_count(t);
+        answer.price = stated_price(s, t);
+        answer
     }
 }

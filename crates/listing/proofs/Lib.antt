@@ -1,8 +1,8 @@
-pub mod Storing
-pub mod Digits
+pub mod Vertices
 pub mod Lengths
 pub mod Accepted
-pub mod Writing
 pub mod PathLines
-pub mod Decimal
-pub mod Listed
+pub mod Writing
+pub mod Longest
+pub mod Inputs
+pub mod Lowest

@@ -16,29 +16,29 @@ use Rattle.mathematics.specs.Bound.{Marks, bound, Shows}
 use Rattle.mathematics.proofs.PriceKinds.{whole-ordered}
 use Rattle.mathematics.proofs.Lowest.{shown-is-lowest}
 
-abbrev vertex : Bool → Bool → Vertex
+abbrev pub vertex : Bool → Bool → Vertex
 vertex s e = record { start = s; end = e; demand = 1 }
 
-abbrev edge : ℕ → ℕ → ℕ → Arc ℤ
+abbrev pub edge : ℕ → ℕ → ℕ → Arc ℤ
 edge u v c = record { tail = u; head = v; cost = pos c; demand = 0 }
 
-abbrev once : List ℕ → Weighted
+abbrev pub once : List ℕ → Weighted
 once p = record { weight = 1; path = p }
 
 -- the marks listed, vertex 0 first; nothing behind them
-abbrev markAt : List ℤ → ℕ → ℤ
+abbrev pub markAt : List ℤ → ℕ → ℤ
 markAt [] v = pos 0
 markAt (x ∷ xs) zero = x
 markAt (x ∷ xs) (suc v) = markAt xs v
 
 -- lists that differ at their first, second number
-differ-first : (x y : ℕ) (p q : List ℕ) → x ≢ y → x ∷ p ≢ y ∷ q
+pub differ-first : (x y : ℕ) (p q : List ℕ) → x ≢ y → x ∷ p ≢ y ∷ q
 differ-first x y p q d e = d (head-eq-of-cons-eq e)
 
-differ-second : (x y z : ℕ) (p q : List ℕ) → y ≢ z → x ∷ y ∷ p ≢ x ∷ z ∷ q
+pub differ-second : (x y z : ℕ) (p q : List ℕ) → y ≢ z → x ∷ y ∷ p ≢ x ∷ z ∷ q
 differ-second x y z p q d e = differ-first y z p q d (tail-eq-of-cons-eq e)
 
-ends-differ : (a b c d : ℕ) → (a ≡ c → b ≡ d → ⊥) → _≢_ {A = ℕ × ℕ} (a, b) (c, d)
+pub ends-differ : (a b c d : ℕ) → (a ≡ c → b ≡ d → ⊥) → _≢_ {A = ℕ × ℕ} (a, b) (c, d)
 ends-differ a b c d h e = h (λ i. e i .0) (λ i. e i .1)
 
 -- ---- D
@@ -64,7 +64,7 @@ D-marks =
       out = markAt (pos 10 ∷ negsuc 3 ∷ negsuc 4 ∷ pos 0 ∷ []);
     }
 
-D-formed : WellFormed D
+pub D-formed : WellFormed D
 D-formed =
     record {
       rises = (omega arith, (omega arith, (omega arith, (omega arith, tt))));
@@ -179,6 +179,12 @@ pub M-reads : M .reads ≡ (0 ∷ 1 ∷ 2 ∷ 4 ∷ []) ∷ (1 ∷ 2 ∷ 3 ∷ [
 unfolding joinAt
 M-reads = refl
 
+-- so file order does not give the prepared reads of L: the first ends in 4 and not in 3
+pub M-not-prepared : M .reads ≢ prepare (L .reads)
+unfolding prepare longest joinAt overlap
+M-not-prepared e =
+    differ-first 4 3 [] [] (λ d. omega arith) (tail-eq-of-cons-eq (tail-eq-of-cons-eq (tail-eq-of-cons-eq (head-eq-of-cons-eq e))))
+
 abbrev pub M-cover : List Weighted
 M-cover = once (0 ∷ 1 ∷ 2 ∷ 3 ∷ []) ∷ once (0 ∷ 1 ∷ 2 ∷ 4 ∷ []) ∷ []
 
@@ -238,7 +244,7 @@ X-marks =
       out = markAt (pos 10 ∷ pos 10 ∷ pos 0 ∷ pos 0 ∷ pos 0 ∷ []);
     }
 
-X-formed : WellFormed X
+pub X-formed : WellFormed X
 X-formed =
     record {
       rises = (omega arith, (omega arith, (omega arith, (omega arith, tt))));

@@ -39,4 +39,14 @@ pub mod Lying
 pub mod Duality
 pub mod Lowest
 pub mod Limits
+pub mod Direction
+pub mod Repriced
+pub mod Avoid
+pub mod BarredThere
+pub mod Counting
+pub mod SafeTest
+pub mod Stretches
 pub mod Examples
+pub mod DirectionExamples
+pub mod RepricedExamples
+pub mod SafeExamples

@@ -8,3 +8,9 @@ pub mod Exists
 pub mod Reach
 pub mod Range
 pub mod Links
+pub mod Direction
+pub mod Repriced
+pub mod Safe
+pub mod Barred
+pub mod Counting
+pub mod Stretches

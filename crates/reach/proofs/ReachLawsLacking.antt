@@ -16,14 +16,15 @@ use Rattle.mathematics.specs.Cover.{Ask, vertexAsks, arcAsk}
 use Rattle.mathematics.specs.Reach.{fromStart, toEnd, readLies, itemLies, askLies}
 use Rattle.forms.specs.declared.Verdict.{Verdict}
 use Rattle.forms.specs.Bytes.{byte, part, tabulate}
-use Rattle.forms.specs.GraphForm.{vertexCount, arcCount, readCount, arcAt, firstReadAt, readLength, readVertices, readEnd}
+use Rattle.forms.specs.GraphForm.{vertexCount, arcCount, readCount, arcAt, firstReadAt, readLength, readVerticesAt, readVertices, readEnd}
 use Rattle.forms.specs.GraphOf.{vertexOf, arcOf, readsFrom, graphOf}
 use Rattle.forms.specs.GraphFaults.{refusal, nothingRefused, then, firstFault}
 use Rattle.forms.specs.GraphReads.{ReadRight, ReadsRight}
 use Rattle.forms.proofs.GraphFacts.{length-tabulate}
 use Rattle.forms.proofs.GraphRange.{vertices-length}
 use Rattle.forms.specs.BuildFaults.{asksLieVerdict, readsLieVerdict}
-use Rattle.reach.specs.Reached.{Counted, Marked, vertexAsk, recordAsk, lacks, lieVerdict}
+use Rattle.reach.specs.Reached.{FormSizes, Reachable, vertexAsk, recordAsk, lacks, lieVerdict}
+use Rattle.forms.specs.Limits.{roomVertices, roomReads}
 
 -- ---- one item
 
@@ -45,9 +46,9 @@ module _ (G : Graph ℤ) (a : Ask) where
   ask-lacks ne e = simp (ne-eqb _ _ ne, e)
 
 -- what the arrays say of what begins with u and ends with v
-pub marked-lies : {s : List ℕ} {xs ys : List Bool} → Marked s xs ys → {x y u v : ℕ} → x ≡ u → y ≡ v → u < vertexCount s → v < vertexCount s → {r b : Bool} →
+pub reachable-lies : {s : List ℕ} {xs ys : List Bool} → Reachable s xs ys → {x y u v : ℕ} → x ≡ u → y ≡ v → u < vertexCount s → v < vertexCount s → {r b : Bool} →
     r ≡ (getD xs x false && getD ys y false) → r ≡ b → (fromStart (graphOf s) u && toEnd (graphOf s) v) ≡ b
-marked-lies {s} {xs} {ys} m {x} {y} {u} {v} eu ev lu lv e q =
+reachable-lies {s} {xs} {ys} m {x} {y} {u} {v} eu ev lu lv e q =
     ap₂ (λ x y. x && y) (sym (m .starts .says u lu) ∙ ap (λ k. getD xs k false) (sym eu)) (sym (m .ends .says v lv) ∙ ap (λ k. getD ys k false) (sym ev)) ∙
     sym e ∙ q
 
@@ -119,7 +120,7 @@ unfolding graphOf
 arcs-then s n m k after e b = arcs-found s n (arcCount s) 0 k after b ∙ ap (λ j. then (overArcs s n j) after) (sym e)
 
 -- vertices, then arcs, then reads: the first that lacks decides
-pub lie-then : {s : List ℕ} {n m : ℕ} → Counted s n m → lieVerdict (graphOf s) nothingRefused ≡ then (overVertices s n) (then (overArcs s n m) (overReads s n m))
+pub lie-then : {s : List ℕ} {n m : ℕ} → FormSizes s n m → lieVerdict (graphOf s) nothingRefused ≡ then (overVertices s n) (then (overArcs s n m) (overReads s n m))
 unfolding lieVerdict
 lie-then {s} {n} {m} c =
     asks-append (graphOf s) 0 (vertexAsks 0 (graphOf s .vertices)) (map arcAsk (graphOf s .arcs)) _ ∙ vertices-then s n _ (c .vertices) ∙
@@ -142,9 +143,9 @@ last-of-part s v i (suc k) h e =
 
 -- the first vertex of a read and its last
 pub record Ends (s : List ℕ) (at : ℕ) : Type 0 where
-  pub first-low : byte s (at + 1) < vertexCount s
-  pub last-low : byte s (at + readLength s at) < vertexCount s
-  pub lies : readLies (graphOf s) (readVertices s at) ≡ (fromStart (graphOf s) (byte s (at + 1)) && toEnd (graphOf s) (byte s (at + readLength s at)))
+  pub first-low : byte s (readVerticesAt s at) < vertexCount s
+  pub last-low : byte s (readEnd s at - 1) < vertexCount s
+  pub lies : readLies (graphOf s) (readVertices s at) ≡ (fromStart (graphOf s) (byte s (readVerticesAt s at)) && toEnd (graphOf s) (byte s (readEnd s at - 1)))
 
 all-last : (P : ℕ → Type 0) (v : ℕ) (r : List ℕ) → All P (v ∷ r) → P (lastOf v r)
 all-last P v [] h = h .0
@@ -156,32 +157,33 @@ read-ends s at r = by (readLength s at) refl
     by : (k : ℕ) → readLength s at ≡ k → Ends s at
     by zero e = absurd (omega (arith, r .not-short))
     by (suc k) e =
-        let shape : readVertices s at ≡ byte s (at + 1) ∷ part s (suc (at + 1)) k =
-        ap (part s (at + 1)) e ∙ first-of-part s (at + 1) k (omega (arith, r .whole)) in
-        let last : lastOf (byte s (at + 1)) (part s (suc (at + 1)) k) ≡ byte s (at + readLength s at) =
-        last-of-part s (byte s (at + 1)) (at + 1) k (omega (arith, r .whole)) refl ∙ ap (byte s) (omega arith) in
-        let inside : All (λ v. v < vertexCount s) (byte s (at + 1) ∷ part s (suc (at + 1)) k) = subst (All (λ v. v < vertexCount s)) shape (r .inside) in
+        let i = readVerticesAt s at in
+        let shape : readVertices s at ≡ byte s i ∷ part s (suc i) k =
+        ap (part s i) e ∙ first-of-part s i k (omega (arith, r .whole)) in
+        let last : lastOf (byte s i) (part s (suc i) k) ≡ byte s (readEnd s at - 1) =
+        last-of-part s (byte s i) i k (omega (arith, r .whole)) refl ∙ ap (byte s) (omega arith) in
+        let inside : All (λ v. v < vertexCount s) (byte s i ∷ part s (suc i) k) = subst (All (λ v. v < vertexCount s)) shape (r .inside) in
         record {
           first-low = inside .0;
-          last-low = subst (λ v. v < vertexCount s) last (all-last (λ v. v < vertexCount s) (byte s (at + 1)) (part s (suc (at + 1)) k) inside);
-          lies = ap (readLies (graphOf s)) shape ∙ ap (λ v. fromStart (graphOf s) (byte s (at + 1)) && toEnd (graphOf s) v) last;
+          last-low = subst (λ v. v < vertexCount s) last (all-last (λ v. v < vertexCount s) (byte s i) (part s (suc i) k) inside);
+          lies = ap (readLies (graphOf s)) shape ∙ ap (λ v. fromStart (graphOf s) (byte s i) && toEnd (graphOf s) v) last;
         }
 
 -- k of count reads are passed, and the next stands at an offset
 pub record ReadsLeft (s : List ℕ) (n m count k at : ℕ) : Type 0 where
   pub most : k ≤ count
-  pub few : count ≤ 16
+  pub few : count ≤ roomReads
   pub right : ReadsRight s (count - k) at
   pub same : overReads s n m ≡ readsLieVerdict (graphOf s) (n + m + k) (readsFrom s (count - k) at) nothingRefused
 
-module _ {s : List ℕ} {n m : ℕ} (c : Counted s n m) where
+module _ {s : List ℕ} {n m : ℕ} (c : FormSizes s n m) where
   pub reads-begin : {count at : ℕ} → count ≡ readCount s → at ≡ firstReadAt s → ReadsLeft s n m count 0 at
   unfolding graphOf
   reads-begin {count} {at} e o =
       let none : readCount s ≡ count - 0 = omega arith in
       record {
         most = omega arith;
-        few = omega (arith, c .reads .arcs .header .few-reads);
+        few = omega (arith, c .reads .arcs .header .reads-room);
         right = subst (λ i. ReadsRight s (count - 0) i) (sym o) (subst (λ k. ReadsRight s k (firstReadAt s)) none (c .reads .reads));
         same =
             ap (λ i. readsLieVerdict (graphOf s) i (readsFrom s (readCount s) (firstReadAt s)) nothingRefused) (sym (add-zero (n + m))) ∙
@@ -228,16 +230,19 @@ module _ {s : List ℕ} {n m : ℕ} (c : Counted s n m) where
         sym (left .same ∙ ap (λ j. readsLieVerdict (graphOf s) (n + m + k) (readsFrom s j at) nothingRefused) none)
 
 -- what a read's first and last byte say of it
-module _ {s : List ℕ} {xs ys : List Bool} (m : Marked s xs ys) {at : ℕ} (r : ReadRight s at) {x y len : ℕ} (first : x ≡ byte s (at + 1))
-    (last : y ≡ byte s (at + len)) (counted : len ≡ readLength s at) where
-  last-is : y ≡ byte s (at + readLength s at)
-  last-is = last ∙ ap (λ k. byte s (at + k)) counted
+module _ {s : List ℕ} {xs ys : List Bool} (m : Reachable s xs ys) {at : ℕ} (r : ReadRight s at) {i j x y : ℕ} (begins : i ≡ readVerticesAt s at) (ends : j ≡ readEnd s at)
+    (first : x ≡ byte s i) (last : y ≡ byte s (j - 1)) where
+  first-is : x ≡ byte s (readVerticesAt s at)
+  first-is = first ∙ ap (byte s) begins
 
-  pub ends-low : (x < 64) × (y < 64)
+  last-is : y ≡ byte s (readEnd s at - 1)
+  last-is = last ∙ ap (λ k. byte s (k - 1)) ends
+
+  pub ends-low : (x < roomVertices) × (y < roomVertices)
   ends-low =
       let e = read-ends s at r in
-      let few = m .reads .arcs .header .few-vertices in
-      (omega (arith, e .first-low), omega (arith, e .last-low, last-is))
+      let few = m .reads .arcs .header .vertices-room in
+      (omega (arith, e .first-low, first-is), omega (arith, e .last-low, last-is))
 
   pub ends-lie : {b : Bool} → b ≡ (getD xs x false && getD ys y false) → b ≡ readLies (graphOf s) (readVertices s at)
-  ends-lie e = let q = read-ends s at r in sym (marked-lies m first last-is (q .first-low) (q .last-low) e refl) ∙ sym (q .lies)
+  ends-lie e = let q = read-ends s at r in sym (reachable-lies m first-is last-is (q .first-low) (q .last-low) e refl) ∙ sym (q .lies)

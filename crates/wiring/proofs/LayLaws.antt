@@ -1,29 +1,30 @@
 -- Laws of laying the edges of a graph form, one kind of edge after the other: what stands at each place, and that a store lays one edge more.
-use Prim.Native.Nat.{ℕ, _+_, _*_, _-_, _/_, _%_, _≤_, _<_}
+use Prim.Native.Nat.{ℕ, _+_, _*_, _-_, _≤_, _<_}
 use native.Mathlib.Omega.{arith}
 use mathlib.Core.Path.{_≡_, refl, sym, ap, ap₂, subst, _∙_}
 use mathlib.Core.List.{List, [], _∷_}
 use mathlib.Core.Bool.{Bool, true, false, cond, _&&_}
 use borrow.Author.Tests.{lt-ltb, le-ltb}
-use lib.Dec.{eqb, ltb}
+use lib.Dec.{ltb}
 use lib.ListN.{length, getD, set}
 use Rattle.mathematics.specs.Lists.{lastOf}
 use Rattle.mathematics.specs.Graph.{isStart, isEnd}
 use Rattle.mathematics.specs.Reach.{useful}
 use Rattle.mathematics.proofs.Links.{Link, opening, closing, inside, across, reading, linkFrom, linkTo}
-use Rattle.forms.specs.Bytes.{byte, be32}
-use Rattle.forms.specs.GraphForm.{vertexCount, arcCount, openingPrice, arcAt, arcTail, arcHead, arcCost}
+use Rattle.forms.specs.GraphForm.{vertexCount, arcCount, openingPrice, arcLength, arcAt, arcTail, arcHead, arcCost}
 use Rattle.forms.specs.GraphOf.{graphOf}
 use Rattle.forms.specs.GraphReads.{Reads}
-use Rattle.reads.specs.ReadTable.{rowAt, Leaves}
+use Rattle.reads.specs.ReadTable.{rowAt, Leaves, rowLength, tableRows}
 use Rattle.reads.proofs.TableLaws.{row-get, last-get}
 use Rattle.reads.proofs.TableRows.{table-get, table-row}
-use Rattle.network.specs.Network.{at}
+use Rattle.network.specs.Network.{nth, mostEdges}
 use Rattle.paths.specs.Slots.{preparedOf, plainSlots, acrossSlot, openingSlot, closingSlot, readingSlot, linkAt, inUse, edgeFrom, edgeTo, edgeCost}
-use Rattle.reach.specs.Reached.{Counted, Tells}
+use Rattle.reach.specs.Reached.{FormSizes, Tells}
 use Rattle.wiring.specs.Lay.{Stored, EdgesLaid}
-use Rattle.reach.proofs.ReachLaws.{Filled, fill-more, start-is, end-is}
-use Rattle.wiring.proofs.SlotLaws.{at-inside, at-across, at-opening, at-closing, at-reading}
+use Rattle.forms.specs.Limits.{roomVertices}
+use Rattle.forms.proofs.Filling.{Filled, fill-more}
+use Rattle.reach.proofs.ReachLaws.{tail-low, head-low}
+use Rattle.paths.proofs.SlotKinds.{at-inside, at-across, at-opening, at-closing, at-reading}
 
 -- the edge at place e is used or not, goes from a to b and costs k
 pub record EdgeIs (s : List ℕ) (e : ℕ) (used : Bool) (a b k : ℕ) : Type 0 where
@@ -50,13 +51,13 @@ module _ {e : ℕ} {used : Bool} {a b k : ℕ} {from to cost : List ℕ} where
       }
 
 -- one store more
-filled-set : (xs xs' : List ℕ) (e x : ℕ) (f : ℕ → ℕ) → xs' ≡ set xs e x → length xs ≡ 464 → e < 464 → x ≡ f e → ((k : ℕ) → k < e → at xs k ≡ f k) →
-    Filled 464 0 f xs' (e + 1)
+filled-set : (xs xs' : List ℕ) (e x : ℕ) (f : ℕ → ℕ) → xs' ≡ set xs e x → length xs ≡ mostEdges → e < mostEdges → x ≡ f e → ((k : ℕ) → k < e → nth xs k ≡ f k) →
+    Filled mostEdges 0 f xs' (e + 1)
 filled-set xs xs' e x f is long room same each =
-    subst (λ ys. Filled 464 0 f ys (e + 1)) (sym is) (fill-more {xs = xs} (record { long = long; each = each }) room same)
+    subst (λ ys. Filled mostEdges 0 f ys (e + 1)) (sym is) (fill-more {xs = xs} (record { long = long; each = each }) room same)
 
 module _ {s : List ℕ} {e : ℕ} {used : Bool} {a b k : ℕ} {from to cost from' to' cost' : List ℕ} where
-  lay-more : EdgesLaid s e from to cost → e < 464 → Stored e used a b k from to cost from' to' cost' → EdgeIs s e used a b k →
+  lay-more : EdgesLaid s e from to cost → e < mostEdges → Stored e used a b k from to cost from' to' cost' → EdgeIs s e used a b k →
       EdgesLaid s (e + 1) from' to' cost'
   lay-more laid room st is =
       let f = filled-set from from' e (cond used a 0) (edgeFrom s) (st .from-is) (laid .from-long) room (is .from-is) (laid .from-is) in
@@ -144,39 +145,34 @@ module _ (s : List ℕ) where
 
 -- ---- a turn of each loop
 
-pub few-plain : {s : List ℕ} → Reads s → plainSlots s ≤ 448
-few-plain r = omega (arith, r .arcs .header .few-vertices, r .arcs .header .few-arcs)
+pub few-plain : {s : List ℕ} → Reads s → plainSlots s + tableRows ≤ mostEdges
+few-plain r = omega (arith, r .arcs .header .vertices-room, r .arcs .header .arcs-room)
 
 pub edges-at : {s from to cost : List ℕ} {k j : ℕ} → EdgesLaid s k from to cost → k ≡ j → EdgesLaid s j from to cost
 edges-at {s} {from} {to} {cost} l e = subst (λ i. EdgesLaid s i from to cost) e l
 
 -- the header's numbers of vertices and arcs, and the bounds on them
-pub counted : {s : List ℕ} {n m : ℕ} → Reads s → n ≡ vertexCount s → m ≡ arcCount s → Counted s n m
+pub counted : {s : List ℕ} {n m : ℕ} → Reads s → n ≡ vertexCount s → m ≡ arcCount s → FormSizes s n m
 counted r n m = record { reads = r; vertices = n; arcs = m }
 
-module _ {s : List ℕ} {n m : ℕ} (c : Counted s n m) where
-  -- records lie within the form
-  pub vertex-whole : (v : ℕ) → v < n → 13 + 5 * v + 5 ≤ length s
-  vertex-whole v h = omega (arith, c .reads .vertices v (omega (arith, c .vertices)) .whole)
+-- the arc whose edge is laid at place e: from the last arc down
+module _ {s : List ℕ} {n m : ℕ} (c : FormSizes s n m) {e : ℕ} (low : n ≤ e) (high : e < n + m) where
+  its-number : n + m - (e + 1) < arcCount s
+  its-number = omega (arith, c .arcs)
 
-  module _ {e : ℕ} (low : n ≤ e) (high : e < n + m) where
-    pub arc-whole : 13 + 5 * n + 10 * (n + m - (e + 1)) + 10 ≤ length s
-    arc-whole = omega (arith, c .reads .arcs .each (n + m - (e + 1)) (omega (arith, c .arcs)) .whole, c .vertices)
+  pub arc-whole : arcAt s (n + m - (e + 1)) + arcLength ≤ length s
+  arc-whole = c .reads .arcs .each (n + m - (e + 1)) its-number .whole
 
-    -- an arc's ends are vertices
-    pub arc-low : {u v : ℕ} → u ≡ byte s (13 + 5 * n + 10 * (n + m - (e + 1))) → v ≡ byte s (13 + 5 * n + 10 * (n + m - (e + 1)) + 1) → (u < 64) × (v < 64)
-    arc-low p q =
-        let a : ℕ = n + m - (e + 1) in
-        let x = c .reads .arcs .each a (omega (arith, c .arcs)) in
-        let o : 13 + 5 * n + 10 * a ≡ arcAt s a = omega (arith, c .vertices) in
-        omega (arith, p, q, ap (byte s) o, ap (λ i. byte s (i + 1)) o, x .rises, x .inside, c .reads .arcs .header .few-vertices)
+  -- an arc's ends are vertices
+  pub arc-low : {u v : ℕ} → u ≡ arcTail s (arcAt s (n + m - (e + 1))) → v ≡ arcHead s (arcAt s (n + m - (e + 1))) → (u < roomVertices) × (v < roomVertices)
+  arc-low p q = (tail-low s (c .reads .arcs) its-number p, head-low s (c .reads .arcs) its-number q)
 
 -- a row that holds a read holds a number
 pub read-some : {rows : List (List ℕ)} {lens : List ℕ} {count i : ℕ} {rs : List (List ℕ)} → Leaves rows lens count rs → i < count →
-    (1 ≤ getD lens i 0) × (getD lens i 0 ≤ 64)
+    (1 ≤ getD lens i 0) × (getD lens i 0 ≤ rowLength)
 read-some {rows} {lens} {count} {i} l h = let row = table-row rows lens count (l .table) i h in omega (arith, row .long, row .read .some, row .fit)
 
-module _ {s : List ℕ} {n m : ℕ} (c : Counted s n m) {e : ℕ} {from to cost from' to' cost' : List ℕ} (laid : EdgesLaid s e from to cost) where
+module _ {s : List ℕ} {n m : ℕ} (c : FormSizes s n m) {e : ℕ} {from to cost from' to' cost' : List ℕ} (laid : EdgesLaid s e from to cost) where
   pub lay-vertex : {kept : List Bool} → Tells s (useful (graphOf s)) kept → e < n →
       Stored e (getD kept e false) (2 * e + 1) (2 * e + 2) 0 from to cost from' to' cost' → EdgesLaid s (e + 1) from' to' cost'
   lay-vertex t l st =
@@ -184,35 +180,31 @@ module _ {s : List ℕ} {n m : ℕ} (c : Counted s n m) {e : ℕ} {from to cost 
       lay-more laid (omega (arith, few-plain (c .reads))) st (inside-edge s e h _ (t .says e h))
 
   module _ {kept : List Bool} (t : Tells s (useful (graphOf s)) kept) {used : Bool} where
-    pub lay-arc : {u v k : ℕ} → n ≤ e → e < n + m → u ≡ byte s (13 + 5 * n + 10 * (n + m - (e + 1))) →
-        v ≡ byte s (13 + 5 * n + 10 * (n + m - (e + 1)) + 1) → k ≡ be32 s (13 + 5 * n + 10 * (n + m - (e + 1)) + 2) →
+    pub lay-arc : {u v k : ℕ} → n ≤ e → e < n + m → u ≡ arcTail s (arcAt s (n + m - (e + 1))) →
+        v ≡ arcHead s (arcAt s (n + m - (e + 1))) → k ≡ arcCost s (arcAt s (n + m - (e + 1))) →
         used ≡ getD kept u false && getD kept v false →
         Stored e used (2 * u + 2) (2 * v + 1) k from to cost from' to' cost' → EdgesLaid s (e + 1) from' to' cost'
     lay-arc {u} {v} {k} low high tail head costs is st =
         let a : ℕ = n + m - (e + 1) in
         let h : a < arcCount s = omega (arith, c .arcs) in
-        let o : 13 + 5 * n + 10 * a ≡ arcAt s a = omega (arith, c .vertices) in
         let x = c .reads .arcs .each a h in
-        let tail' : u ≡ arcTail s (arcAt s a) = tail ∙ ap (byte s) o in
-        let head' : v ≡ arcHead s (arcAt s a) = head ∙ ap (λ i. byte s (i + 1)) o in
         lay-more laid (omega (arith, few-plain (c .reads), c .vertices, c .arcs)) st
-        (across-edge s e a (omega (arith, c .vertices, c .arcs)) h u v k used tail' head' (costs ∙ ap (λ i. be32 s (i + 2)) o)
-        (is ∙ ap₂ (λ p q. p && q) (t .says u (omega (arith, tail', head', x .rises, x .inside))) (t .says v (omega (arith, head', x .inside)))))
+        (across-edge s e a (omega (arith, c .vertices, c .arcs)) h u v k used tail head costs
+        (is ∙ ap₂ (λ p q. p && q) (t .says u (omega (arith, tail, head, x .rises, x .inside))) (t .says v (omega (arith, head, x .inside)))))
 
-    pub lay-opening : {v flag k : ℕ} → v ≡ 2 * n + m - (e + 1) → n + m ≤ e → e < 2 * n + m → flag ≡ byte s (13 + 5 * v) → k ≡ openingPrice s →
-        used ≡ eqb (flag % 2) 1 && getD kept v false → Stored e used 0 (2 * v + 1) k from to cost from' to' cost' → EdgesLaid s (e + 1) from' to' cost'
-    lay-opening {v} {flag} {k} q low high f costs is st =
+    pub lay-opening : {v k : ℕ} {start : Bool} → v ≡ 2 * n + m - (e + 1) → n + m ≤ e → e < 2 * n + m → start ≡ isStart (graphOf s) v → k ≡ openingPrice s →
+        used ≡ start && getD kept v false → Stored e used 0 (2 * v + 1) k from to cost from' to' cost' → EdgesLaid s (e + 1) from' to' cost'
+    lay-opening {v} {k} q low high f costs is st =
         let h : v < vertexCount s = omega (arith, c .vertices) in
         lay-more laid (omega (arith, few-plain (c .reads), c .vertices, c .arcs)) st
-        (opening-edge s e v (omega (arith, c .vertices, c .arcs)) h k used costs
-        (is ∙ ap₂ (λ p q. p && q) (ap (λ x. eqb (x % 2) 1) f ∙ sym (start-is s v h)) (t .says v h)))
+        (opening-edge s e v (omega (arith, c .vertices, c .arcs)) h k used costs (is ∙ ap₂ (λ p q. p && q) f (t .says v h)))
 
-    pub lay-closing : {v flag : ℕ} → e ≡ 2 * n + m + v → v < n → flag ≡ byte s (13 + 5 * v) → used ≡ eqb (flag / 2) 1 && getD kept v false →
+    pub lay-closing : {v : ℕ} {end : Bool} → e ≡ 2 * n + m + v → v < n → end ≡ isEnd (graphOf s) v → used ≡ end && getD kept v false →
         Stored e used (2 * v + 2) 0 0 from to cost from' to' cost' → EdgesLaid s (e + 1) from' to' cost'
-    lay-closing {v} {flag} q low f is st =
+    lay-closing {v} q low f is st =
         let h : v < vertexCount s = omega (arith, c .vertices) in
         lay-more laid (omega (arith, few-plain (c .reads), c .vertices, c .arcs)) st
-        (closing-edge s e v (omega (arith, c .vertices, c .arcs)) h used (is ∙ ap₂ (λ p q. p && q) (ap (λ x. eqb (x / 2) 1) f ∙ sym (end-is s v h)) (t .says v h)))
+        (closing-edge s e v (omega (arith, c .vertices, c .arcs)) h used (is ∙ ap₂ (λ p q. p && q) f (t .says v h)))
 
   pub lay-read : {rows : List (List ℕ)} {lens : List ℕ} {count i : ℕ} → Leaves rows lens count (preparedOf s) → e ≡ 3 * n + m + i → i < count →
       {first last : ℕ} → first ≡ getD (getD rows i []) 0 0 → last ≡ getD (getD rows i []) (getD lens i 0 - 1) 0 →

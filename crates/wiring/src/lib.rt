@@ -1,8 +1,21 @@
 // The working network of a graph form: edges with their ends and costs, first loads, live nodes, and each node's surplus or deficit.
 use forms::Graph;
-use forms::bytes::be16;
-use forms::bytes::be32;
 use forms::bytes::wide;
+use forms::fields::arc_cost;
+use forms::fields::arc_count;
+use forms::fields::arc_demand;
+use forms::fields::arc_head;
+use forms::fields::arc_tail;
+use forms::fields::first_arc_at;
+use forms::fields::opening_price;
+use forms::fields::vertex_count;
+use forms::fields::vertex_demand;
+use forms::roles::is_end;
+use forms::roles::is_start;
+use network::EDGES;
+use network::NODES;
+use reads::ROW;
+use reads::ROWS;
 ghost use mathlib.Core.Path.{_≡_};
 ghost use mathlib.Core.Bool.{_&&_, cond};
 ghost use lib.Dec.{ltb};
@@ -12,8 +25,9 @@ ghost use Rattle.mathematics.specs.Reach.{useful};
 ghost use Rattle.forms.specs.GraphForm.{vertexCount, arcCount};
 ghost use Rattle.forms.specs.GraphOf.{graphOf};
 ghost use Rattle.forms.specs.GraphReads.{Reads};
-ghost use Rattle.reads.specs.ReadTable.{Leaves};
-ghost use Rattle.network.specs.Network.{at};
+ghost use Rattle.forms.specs.Roles.{Roles};
+ghost use Rattle.reads.specs.ReadTable.{Leaves, tableRows};
+ghost use Rattle.network.specs.Network.{mostNodes, mostEdges};
 ghost use Rattle.paths.specs.Slots.{preparedOf, plainSlots, allSlots};
 ghost use Rattle.reach.specs.Reached.{Tells};
 ghost use Rattle.wiring.specs.Lay.{Stored, EdgesLaid, VerticesCounted, ArcsCounted, LoadsLaid, LiveLaid, Summable, Tallied, Netted, Balanced};
@@ -31,11 +45,11 @@ fn store_edge(
     a: usize,
     b: usize,
     k: u64,
-    from: &mut [usize; 464],
-    to: &mut [usize; 464],
-    cost: &mut [u64; 464],
+    from: &mut [usize; EDGES],
+    to: &mut [usize; EDGES],
+    cost: &mut [u64; EDGES],
 )
-    requires { ⌜ e < 464 ⌝ }
+    requires { ⌜ e < mostEdges ⌝ }
     ensures { λ _. ⌜ Stored e used a b k (now (from .entry)) (now (to .entry)) (now (cost .entry)) (now (from .exit)) (now (to .exit)) (now (cost .exit)) ⌝ }
 {
     if used {
@@ -52,16 +66,16 @@ fn store_edge(
 // From the in side of each useful vertex to its out side.
 fn lay_vertices(
     s: &[u8],
-    kept: &[bool; 64],
-    from: &mut [usize; 464],
-    to: &mut [usize; 464],
-    cost: &mut [u64; 464],
+    kept: &[bool; Graph::ROOM_VERTICES],
+    from: &mut [usize; EDGES],
+    to: &mut [usize; EDGES],
+    cost: &mut [u64; EDGES],
 )
     requires { ⌜ Reads (now s) × Tells (now s) (useful (graphOf (now s))) (now kept) ⌝ }
     requires { ⌜ EdgesLaid (now s) 0 (now from) (now to) (now cost) ⌝ }
     ensures { λ _. ⌜ EdgesLaid (now (s .entry)) (vertexCount (now (s .entry))) (now (from .exit)) (now (to .exit)) (now (cost .exit)) ⌝ }
 {
-    let n = wide(s[Graph::AT_VERTICES]);
+    let n = vertex_count(s);
     let mut v = 0;
     while v < n {
         store_edge(v, kept[v], 2 * v + 1, 2 * v + 2, 0, from, to, cost);
@@ -72,24 +86,24 @@ fn lay_vertices(
 // From the out side of an arc's tail to the in side of its head, where both are useful; from the last arc down.
 fn lay_arcs(
     s: &[u8],
-    kept: &[bool; 64],
-    from: &mut [usize; 464],
-    to: &mut [usize; 464],
-    cost: &mut [u64; 464],
+    kept: &[bool; Graph::ROOM_VERTICES],
+    from: &mut [usize; EDGES],
+    to: &mut [usize; EDGES],
+    cost: &mut [u64; EDGES],
 )
     requires { ⌜ Reads (now s) × Tells (now s) (useful (graphOf (now s))) (now kept) ⌝ }
     requires { ⌜ EdgesLaid (now s) (vertexCount (now s)) (now from) (now to) (now cost) ⌝ }
     ensures { λ _. ⌜ EdgesLaid (now (s .entry)) (vertexCount (now (s .entry)) + arcCount (now (s .entry))) (now (from .exit)) (now (to .exit)) (now (cost .exit)) ⌝ }
 {
-    let n = wide(s[Graph::AT_VERTICES]);
-    let m = be16(s, Graph::AT_ARCS);
+    let n = vertex_count(s);
+    let m = arc_count(s);
+    let base = first_arc_at(s);
     let mut e = n;
     while e < n + m {
         let a = n + m - (e + 1);
-        let at = Graph::HEADER + Graph::VERTEX * n + Graph::ARC * a;
-        let u = wide(s[at]);
-        let v = wide(s[at + 1]);
-        let k = be32(s, at + 2) as u64;
+        let u = arc_tail(s, base, a);
+        let v = arc_head(s, base, a);
+        let k = arc_cost(s, base, a) as u64;
         let used = both(kept[u], kept[v]);
         store_edge(e, used, 2 * u + 2, 2 * v + 1, k, from, to, cost);
         e += 1;
@@ -99,23 +113,23 @@ fn lay_arcs(
 // From the root to the in side of each useful start, at the opening price; from the last vertex down.
 fn lay_openings(
     s: &[u8],
-    kept: &[bool; 64],
-    from: &mut [usize; 464],
-    to: &mut [usize; 464],
-    cost: &mut [u64; 464],
+    roles: &[u8; Graph::ROOM_VERTICES],
+    kept: &[bool; Graph::ROOM_VERTICES],
+    from: &mut [usize; EDGES],
+    to: &mut [usize; EDGES],
+    cost: &mut [u64; EDGES],
 )
-    requires { ⌜ Reads (now s) × Tells (now s) (useful (graphOf (now s))) (now kept) ⌝ }
+    requires { ⌜ Reads (now s) × Roles (now s) (now roles) × Tells (now s) (useful (graphOf (now s))) (now kept) ⌝ }
     requires { ⌜ EdgesLaid (now s) (vertexCount (now s) + arcCount (now s)) (now from) (now to) (now cost) ⌝ }
     ensures { λ _. ⌜ EdgesLaid (now (s .entry)) (2 * vertexCount (now (s .entry)) + arcCount (now (s .entry))) (now (from .exit)) (now (to .exit)) (now (cost .exit)) ⌝ }
 {
-    let n = wide(s[Graph::AT_VERTICES]);
-    let m = be16(s, Graph::AT_ARCS);
-    let k = be32(s, Graph::AT_OPENING) as u64;
+    let n = vertex_count(s);
+    let m = arc_count(s);
+    let k = opening_price(s) as u64;
     let mut e = n + m;
     while e < 2 * n + m {
         let v = 2 * n + m - (e + 1);
-        let flag = wide(s[Graph::HEADER + Graph::VERTEX * v]);
-        let used = both(flag % 2 == 1, kept[v]);
+        let used = both(is_start(s, roles, v), kept[v]);
         store_edge(e, used, 0, 2 * v + 1, k, from, to, cost);
         e += 1;
     }
@@ -124,21 +138,21 @@ fn lay_openings(
 // From the out side of each useful end back to the root.
 fn lay_closings(
     s: &[u8],
-    kept: &[bool; 64],
-    from: &mut [usize; 464],
-    to: &mut [usize; 464],
-    cost: &mut [u64; 464],
+    roles: &[u8; Graph::ROOM_VERTICES],
+    kept: &[bool; Graph::ROOM_VERTICES],
+    from: &mut [usize; EDGES],
+    to: &mut [usize; EDGES],
+    cost: &mut [u64; EDGES],
 )
-    requires { ⌜ Reads (now s) × Tells (now s) (useful (graphOf (now s))) (now kept) ⌝ }
+    requires { ⌜ Reads (now s) × Roles (now s) (now roles) × Tells (now s) (useful (graphOf (now s))) (now kept) ⌝ }
     requires { ⌜ EdgesLaid (now s) (2 * vertexCount (now s) + arcCount (now s)) (now from) (now to) (now cost) ⌝ }
     ensures { λ _. ⌜ EdgesLaid (now (s .entry)) (plainSlots (now (s .entry))) (now (from .exit)) (now (to .exit)) (now (cost .exit)) ⌝ }
 {
-    let n = wide(s[Graph::AT_VERTICES]);
-    let m = be16(s, Graph::AT_ARCS);
+    let n = vertex_count(s);
+    let m = arc_count(s);
     let mut v = 0;
     while v < n {
-        let flag = wide(s[Graph::HEADER + Graph::VERTEX * v]);
-        let used = both(flag / 2 == 1, kept[v]);
+        let used = both(is_end(s, roles, v), kept[v]);
         store_edge(2 * n + m + v, used, 2 * v + 2, 0, 0, from, to, cost);
         v += 1;
     }
@@ -147,19 +161,19 @@ fn lay_closings(
 // From the in side of each prepared read's first vertex to the out side of its last.
 fn lay_reads(
     s: &[u8],
-    rows: &[[u8; 64]; 16],
-    lens: &[usize; 16],
+    rows: &[[u8; ROW]; ROWS],
+    lens: &[usize; ROWS],
     count: usize,
-    from: &mut [usize; 464],
-    to: &mut [usize; 464],
-    cost: &mut [u64; 464],
+    from: &mut [usize; EDGES],
+    to: &mut [usize; EDGES],
+    cost: &mut [u64; EDGES],
 )
     requires { ⌜ Reads (now s) × Leaves (now rows) (now lens) count (preparedOf (now s)) ⌝ }
     requires { ⌜ EdgesLaid (now s) (plainSlots (now s)) (now from) (now to) (now cost) ⌝ }
     ensures { λ _. ⌜ EdgesLaid (now (s .entry)) (allSlots (now (s .entry))) (now (from .exit)) (now (to .exit)) (now (cost .exit)) ⌝ }
 {
-    let n = wide(s[Graph::AT_VERTICES]);
-    let m = be16(s, Graph::AT_ARCS);
+    let n = vertex_count(s);
+    let m = arc_count(s);
     let mut i = 0;
     while i < count {
         let first = wide(rows[i][0]);
@@ -181,23 +195,24 @@ fn lay_reads(
 // All edges: vertices, arcs, openings, closings, reads.
 pub fn lay_edges(
     s: &[u8],
-    kept: &[bool; 64],
-    rows: &[[u8; 64]; 16],
-    lens: &[usize; 16],
+    roles: &[u8; Graph::ROOM_VERTICES],
+    kept: &[bool; Graph::ROOM_VERTICES],
+    rows: &[[u8; ROW]; ROWS],
+    lens: &[usize; ROWS],
     count: usize,
-    from: &mut [usize; 464],
-    to: &mut [usize; 464],
-    cost: &mut [u64; 464],
+    from: &mut [usize; EDGES],
+    to: &mut [usize; EDGES],
+    cost: &mut [u64; EDGES],
 )
-    requires { ⌜ Reads (now s) × Tells (now s) (useful (graphOf (now s))) (now kept) ⌝ }
+    requires { ⌜ Reads (now s) × Roles (now s) (now roles) × Tells (now s) (useful (graphOf (now s))) (now kept) ⌝ }
     requires { ⌜ Leaves (now rows) (now lens) count (preparedOf (now s)) ⌝ }
     requires { ⌜ EdgesLaid (now s) 0 (now from) (now to) (now cost) ⌝ }
     ensures { λ _. ⌜ EdgesLaid (now (s .entry)) (allSlots (now (s .entry))) (now (from .exit)) (now (to .exit)) (now (cost .exit)) ⌝ }
 {
     lay_vertices(s, kept, from, to, cost);
     lay_arcs(s, kept, from, to, cost);
-    lay_openings(s, kept, from, to, cost);
-    lay_closings(s, kept, from, to, cost);
+    lay_openings(s, roles, kept, from, to, cost);
+    lay_closings(s, roles, kept, from, to, cost);
     lay_reads(s, rows, lens, count, from, to, cost);
 }
 
@@ -212,33 +227,32 @@ fn owed(demand: usize, reads: usize) -> u64
 }
 
 // On the edge of a vertex lies its rest.
-fn load_vertices(s: &[u8], passed: &[usize; 64], load: &mut [u64; 464])
+fn load_vertices(s: &[u8], passed: &[usize; Graph::ROOM_VERTICES], load: &mut [u64; EDGES])
     requires { ⌜ Reads (now s) × VerticesCounted (now s) (now passed) ⌝ }
     requires { ⌜ LoadsLaid (now s) 0 (now load) ⌝ }
     ensures { λ _. ⌜ LoadsLaid (now (s .entry)) (vertexCount (now (s .entry))) (now (load .exit)) ⌝ }
 {
-    let n = wide(s[Graph::AT_VERTICES]);
+    let n = vertex_count(s);
     let mut v = 0;
     while v < n {
-        let demand = be32(s, Graph::HEADER + Graph::VERTEX * v + 1);
-        load[v] = owed(demand, passed[v]);
+        load[v] = owed(vertex_demand(s, v), passed[v]);
         v += 1;
     }
 }
 
 // On the edge of an arc lies its rest.
-fn load_arcs(s: &[u8], passed: &[usize; 256], load: &mut [u64; 464])
+fn load_arcs(s: &[u8], passed: &[usize; Graph::ROOM_ARCS], load: &mut [u64; EDGES])
     requires { ⌜ Reads (now s) × ArcsCounted (now s) (now passed) ⌝ }
     requires { ⌜ LoadsLaid (now s) (vertexCount (now s)) (now load) ⌝ }
     ensures { λ _. ⌜ LoadsLaid (now (s .entry)) (vertexCount (now (s .entry)) + arcCount (now (s .entry))) (now (load .exit)) ⌝ }
 {
-    let n = wide(s[Graph::AT_VERTICES]);
-    let m = be16(s, Graph::AT_ARCS);
+    let n = vertex_count(s);
+    let m = arc_count(s);
+    let base = first_arc_at(s);
     let mut e = n;
     while e < n + m {
         let a = n + m - (e + 1);
-        let demand = be32(s, Graph::HEADER + Graph::VERTEX * n + Graph::ARC * a + 6);
-        load[e] = owed(demand, passed[a]);
+        load[e] = owed(arc_demand(s, base, a), passed[a]);
         e += 1;
     }
 }
@@ -251,13 +265,13 @@ fn unit(e: usize, plain: usize) -> u64
 }
 
 // On an opening and on a closing lies nothing, and on each prepared read one unit.
-fn load_ends(s: &[u8], count: usize, load: &mut [u64; 464])
-    requires { ⌜ Reads (now s) × (count ≡ length (preparedOf (now s))) × (count ≤ 16) ⌝ }
+fn load_ends(s: &[u8], count: usize, load: &mut [u64; EDGES])
+    requires { ⌜ Reads (now s) × (count ≡ length (preparedOf (now s))) × (count ≤ tableRows) ⌝ }
     requires { ⌜ LoadsLaid (now s) (vertexCount (now s) + arcCount (now s)) (now load) ⌝ }
     ensures { λ _. ⌜ LoadsLaid (now (s .entry)) (allSlots (now (s .entry))) (now (load .exit)) ⌝ }
 {
-    let n = wide(s[Graph::AT_VERTICES]);
-    let m = be16(s, Graph::AT_ARCS);
+    let n = vertex_count(s);
+    let m = arc_count(s);
     let plain = 3 * n + m;
     let mut e = n + m;
     while e < plain + count {
@@ -269,12 +283,12 @@ fn load_ends(s: &[u8], count: usize, load: &mut [u64; 464])
 // All first loads.
 pub fn lay_loads(
     s: &[u8],
-    vertices: &[usize; 64],
-    arcs: &[usize; 256],
+    vertices: &[usize; Graph::ROOM_VERTICES],
+    arcs: &[usize; Graph::ROOM_ARCS],
     count: usize,
-    load: &mut [u64; 464],
+    load: &mut [u64; EDGES],
 )
-    requires { ⌜ Reads (now s) × (count ≡ length (preparedOf (now s))) × (count ≤ 16) ⌝ }
+    requires { ⌜ Reads (now s) × (count ≡ length (preparedOf (now s))) × (count ≤ tableRows) ⌝ }
     requires { ⌜ VerticesCounted (now s) (now vertices) × ArcsCounted (now s) (now arcs) ⌝ }
     requires { ⌜ LoadsLaid (now s) 0 (now load) ⌝ }
     ensures { λ _. ⌜ LoadsLaid (now (s .entry)) (allSlots (now (s .entry))) (now (load .exit)) ⌝ }
@@ -285,12 +299,12 @@ pub fn lay_loads(
 }
 
 // The root and both sides of each useful vertex are live.
-pub fn lay_live(s: &[u8], kept: &[bool; 64], live: &mut [bool; 129])
+pub fn lay_live(s: &[u8], kept: &[bool; Graph::ROOM_VERTICES], live: &mut [bool; NODES])
     requires { ⌜ Reads (now s) × Tells (now s) (useful (graphOf (now s))) (now kept) ⌝ }
-    requires { ⌜ length (now live) ≡ 129 ⌝ }
+    requires { ⌜ length (now live) ≡ mostNodes ⌝ }
     ensures { λ _. ⌜ LiveLaid (now (s .entry)) (2 * vertexCount (now (s .entry)) + 1) (now (live .exit)) ⌝ }
 {
-    let n = wide(s[Graph::AT_VERTICES]);
+    let n = vertex_count(s);
     live[0] = true;
     let mut v = 0;
     while v < n {
@@ -304,11 +318,11 @@ pub fn lay_live(s: &[u8], kept: &[bool; 64], live: &mut [bool; 129])
 fn tally(
     nodes: usize,
     edges: usize,
-    from: &[usize; 464],
-    to: &[usize; 464],
-    load: &[u64; 464],
-    into: &mut [u64; 129],
-    out: &mut [u64; 129],
+    from: &[usize; EDGES],
+    to: &[usize; EDGES],
+    load: &[u64; EDGES],
+    into: &mut [u64; NODES],
+    out: &mut [u64; NODES],
 )
     requires { ⌜ Summable nodes edges (now from) (now to) (now load) ⌝ }
     requires { ⌜ Tallied nodes 0 (now from) (now to) (now load) (now into) (now out) ⌝ }
@@ -325,8 +339,8 @@ fn tally(
 }
 
 // Takes the lesser of what enters and what leaves off both, at each node.
-fn net(nodes: usize, surplus: &mut [u64; 129], deficit: &mut [u64; 129])
-    requires { ⌜ nodes ≤ 129 ⌝ }
+fn net(nodes: usize, surplus: &mut [u64; NODES], deficit: &mut [u64; NODES])
+    requires { ⌜ nodes ≤ mostNodes ⌝ }
     requires { ⌜ Netted 0 (now surplus) (now deficit) (now surplus) (now deficit) ⌝ }
     ensures { λ _. ⌜ Netted nodes (now (surplus .entry)) (now (deficit .entry)) (now (surplus .exit)) (now (deficit .exit)) ⌝ }
 {
@@ -347,11 +361,11 @@ fn net(nodes: usize, surplus: &mut [u64; 129], deficit: &mut [u64; 129])
 pub fn lay_balance(
     nodes: usize,
     edges: usize,
-    from: &[usize; 464],
-    to: &[usize; 464],
-    load: &[u64; 464],
-    surplus: &mut [u64; 129],
-    deficit: &mut [u64; 129],
+    from: &[usize; EDGES],
+    to: &[usize; EDGES],
+    load: &[u64; EDGES],
+    surplus: &mut [u64; NODES],
+    deficit: &mut [u64; NODES],
 )
     requires { ⌜ Summable nodes edges (now from) (now to) (now load) ⌝ }
     requires { ⌜ Tallied nodes 0 (now from) (now to) (now load) (now surplus) (now deficit) ⌝ }

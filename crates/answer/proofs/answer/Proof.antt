@@ -20,12 +20,12 @@ list-refusal-requires-2 c κs = search needs
 returns-2 : tie.Need-returns-2
 returns-2 c =
     let l = c .before .before .before .before in
-    refuses-built (l .before .before .if1 .left) (search needs) (l .build .ensures) (c .before .before .if2 .taken) (search needs) (c .list-refusal2 .ensures .0)
+    refuses-built (l .before .before .if1 .left) (search needs) (l .build .ensures) (search needs) (search needs) (c .list-refusal2 .ensures .0) (search needs) (search needs)
 
 returns-3 : tie.Need-returns-3
 returns-3 c =
     let l = c .before .before in
-    answers (l .before .before .if1 .left) (search needs) (l .build .ensures) (c .if2 .left)
+    answers (l .before .before .if1 .left) (search needs) (l .build .ensures) (search needs)
 
 pub answer-spec : {M : Type 1} → statement M
 answer-spec =

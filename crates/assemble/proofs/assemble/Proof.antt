@@ -6,7 +6,7 @@ use mathlib.Core.Path.{sym}
 use lib.ListN.{length-replicate}
 use lib.Seq.{length-take-le}
 use borrow.Author.Needs.{needs}
-use Rattle.forms.specs.BuildFaults.{roomAsked}
+use Rattle.listing.specs.Listing.{answerLent}
 use Rattle.assemble.proofs.Laws.{lists-too-long, lists-refused, lists-built}
 use Rattle.assemble.proofs.assemble.Statement.{statement}
 use Rattle.assemble.proofs.assemble.Tie as tie
@@ -29,7 +29,7 @@ list-refusal-requires-2 c κs = search needs
 returns-2 : tie.Need-returns-2
 returns-2 c =
     let l = c .before .before .before .before .before in
-    lists-refused (length-replicate {A = ℕ} roomAsked 0) (l .build .ensures) (search needs) (l .before .before .if1 .left) (c .before .before .if2 .taken) (c .list-refusal2 .ensures .0)
+    lists-refused (l .before .before .if1 .left) (length-replicate {A = ℕ} answerLent 0) (l .build .ensures) (search needs) (search needs) (c .list-refusal2 .ensures .0) (search needs) (search needs)
 
 array-share-prefix-answer : tie.Need-array-share-prefix-answer
 array-share-prefix-answer c = search needs
@@ -45,7 +45,7 @@ list-cover-requires c κs = search needs
 returns-3 : tie.Need-returns-3
 returns-3 c =
     let l = c .before .before .before .before .before .before in
-    lists-built (length-replicate {A = ℕ} roomAsked 0) (l .build .ensures) (search needs) (l .before .before .if1 .left) (c .before .before .before .if2 .left) (c .list-cover .ensures)
+    lists-built (l .before .before .if1 .left) (length-replicate {A = ℕ} answerLent 0) (l .build .ensures) (search needs) (search needs) (c .list-cover .ensures)
 
 pub assemble-spec : {M : Type 1} → statement M
 assemble-spec =

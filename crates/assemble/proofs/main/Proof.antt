@@ -1,7 +1,7 @@
 -- `assemble::main` is safe: the bytes that are to be written are within what was lent.
 -- Assumes nothing.
 use borrow.Author.Needs.{needs}
-use Rattle.listing.proofs.Writing.{written-fits, written-long}
+use Rattle.text.proofs.Writing.{written-fits, written-long}
 use Rattle.assemble.proofs.main.Statement.{statement}
 use Rattle.assemble.proofs.main.Tie as tie
 

@@ -1,7 +1,7 @@
 -- `certify::arc_part` gives an arc's part of the bound: its slack is a difference of two marks with the limit added.
 use native.Mathlib.Omega.{arith}
 use Prim.Native.Nat.{_-_, _+_}
-use Rattle.certify.proofs.CertifyLaws.{arc-read, tail-below, head-below}
+use Rattle.certify.proofs.CertifyLaws.{arc-read, tail-below, head-below, in-mark-within, out-mark-within}
 use Rattle.certify.proofs.CertifyLawsBound.{small, arc-ordered, arc-part}
 use borrow.Author.Needs.{needs}
 use Rattle.certify.proofs.arc_part.Statement.{statement}
@@ -11,13 +11,13 @@ arc-tail-requires : tie.Need-arc-tail-requires
 arc-tail-requires c κs = (c .before .before .pre .0 .2, c .before .before .pre .0 .0 .arcs .each (c .before .before .args .a) (search needs) .whole)
 
 out-mark-plus-requires : tie.Need-out-mark-plus-requires
-out-mark-plus-requires c κs = let h = tail-below (c .before .before .before .pre .0 .0) (search needs) (c .arc-tail .ensures .0) in (omega arith, c .before .before .before .pre .0 .1 .out _ h)
+out-mark-plus-requires c κs = let h = tail-below (c .before .before .before .pre .0 .0) (search needs) (c .arc-tail .ensures .0) in (out-mark-within (c .before .before .before .pre .0 .1) h, c .before .before .before .pre .0 .1 .out _ h)
 
 arc-head-requires : tie.Need-arc-head-requires
 arc-head-requires c κs = (c .before .before .before .before .pre .0 .2, c .before .before .before .before .pre .0 .0 .arcs .each (c .before .before .before .before .args .a) (search needs) .whole)
 
 in-mark-plus-requires : tie.Need-in-mark-plus-requires
-in-mark-plus-requires c κs = let h = head-below (c .before .before .before .before .before .pre .0 .0) (search needs) (c .arc-head .ensures .0) in (omega arith, c .before .before .before .before .before .pre .0 .1 .into _ h)
+in-mark-plus-requires c κs = let h = head-below (c .before .before .before .before .before .pre .0 .0) (search needs) (c .arc-head .ensures .0) in (in-mark-within (c .before .before .before .before .before .pre .0 .1) h, c .before .before .before .before .before .pre .0 .1 .into _ h)
 
 arc-demand-requires : tie.Need-arc-demand-requires
 arc-demand-requires c κs = (c .before .before .before .before .before .before .pre .0 .2, c .before .before .before .before .before .before .pre .0 .0 .arcs .each (c .before .before .before .before .before .before .args .a) (search needs) .whole)

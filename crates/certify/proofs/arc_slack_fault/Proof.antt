@@ -1,6 +1,6 @@
 -- `certify::arc_slack_fault` tests an arc's slack on two marks with the limit added.
 use native.Mathlib.Omega.{arith}
-use Rattle.certify.proofs.CertifyLaws.{arc-read, tail-below, head-below, arc-crossed, arc-held}
+use Rattle.certify.proofs.CertifyLaws.{arc-read, tail-below, head-below, arc-crossed, arc-held, in-mark-within, out-mark-within}
 use borrow.Author.Needs.{needs}
 use Rattle.certify.proofs.arc_slack_fault.Statement.{statement}
 use Rattle.certify.proofs.arc_slack_fault.Tie as tie
@@ -9,13 +9,13 @@ arc-tail-requires : tie.Need-arc-tail-requires
 arc-tail-requires c κs = (c .before .before .pre .2, c .before .before .pre .0 .arcs .each (c .before .before .args .a) (search needs) .whole)
 
 out-mark-plus-requires : tie.Need-out-mark-plus-requires
-out-mark-plus-requires c κs = let h = tail-below (c .before .before .before .pre .0) (search needs) (c .arc-tail .ensures .0) in (omega arith, c .before .before .before .pre .1 .out _ h)
+out-mark-plus-requires c κs = let h = tail-below (c .before .before .before .pre .0) (search needs) (c .arc-tail .ensures .0) in (out-mark-within (c .before .before .before .pre .1) h, c .before .before .before .pre .1 .out _ h)
 
 arc-head-requires : tie.Need-arc-head-requires
 arc-head-requires c κs = (c .before .before .before .before .pre .2, c .before .before .before .before .pre .0 .arcs .each (c .before .before .before .before .args .a) (search needs) .whole)
 
 in-mark-plus-requires : tie.Need-in-mark-plus-requires
-in-mark-plus-requires c κs = let h = head-below (c .before .before .before .before .before .pre .0) (search needs) (c .arc-head .ensures .0) in (omega arith, c .before .before .before .before .before .pre .1 .into _ h)
+in-mark-plus-requires c κs = let h = head-below (c .before .before .before .before .before .pre .0) (search needs) (c .arc-head .ensures .0) in (in-mark-within (c .before .before .before .before .before .pre .1) h, c .before .before .before .before .before .pre .1 .into _ h)
 
 arc-cost-requires : tie.Need-arc-cost-requires
 arc-cost-requires c κs = (c .before .before .before .before .before .before .pre .2, c .before .before .before .before .before .before .pre .0 .arcs .each (c .before .before .before .before .before .before .args .a) (search needs) .whole)

@@ -1,7 +1,7 @@
 -- `certify::arc_slacks` gives the first arc with a slack below 0: the answer of all is that of those not yet passed.
 use Prim.Native.Nat.{_-_, _≤_}
 use mathlib.Core.Path.{_≡_, _∙_}
-use Rattle.forms.specs.GraphForm.{vertexCount, arcCount}
+use Rattle.forms.specs.GraphForm.{vertexCount, arcCount, firstArcAt}
 use Rattle.forms.specs.GraphFaults.{firstFault}
 use Rattle.certify.specs.Certify.{arcSlackFault, arcPlace}
 use Rattle.forms.proofs.Scan.{scan-begins, scan-turns, scan-stops, scan-ends}
@@ -10,19 +10,22 @@ use Rattle.certify.proofs.arc_slacks.Statement.{statement}
 use Rattle.certify.proofs.arc_slacks.Tie as tie
 
 abbrev Inv-loop : tie.InvT-loop
-Inv-loop s t n count a₀ a = (n ≡ vertexCount s) × (count ≡ arcCount s) × (a ≤ count) × (firstFault (arcSlackFault s t) (arcPlace s) (arcCount s) 0 ≡ firstFault (arcSlackFault s t) (arcPlace s) (arcCount s - a) a)
+Inv-loop s t n base count a₀ a = (n ≡ vertexCount s) × (base ≡ firstArcAt s) × (count ≡ arcCount s) × (a ≤ count) × (firstFault (arcSlackFault s t) (arcPlace s) (arcCount s) 0 ≡ firstFault (arcSlackFault s t) (arcPlace s) (arcCount s - a) a)
 
 abbrev μ-loop : tie.MeasureT-loop
-μ-loop s t n count a₀ a = count - a
+μ-loop s t n base count a₀ a = count - a
 
 vertex-count-requires : tie.Need-vertex-count-requires Inv-loop μ-loop
 vertex-count-requires c κs = search needs
+
+first-arc-at-requires : tie.Need-first-arc-at-requires Inv-loop μ-loop
+first-arc-at-requires c κs = search needs
 
 arc-count-requires : tie.Need-arc-count-requires Inv-loop μ-loop
 arc-count-requires c κs = search needs
 
 loop-holds : tie.Need-loop-holds Inv-loop μ-loop
-loop-holds c = (search needs, search needs, search needs, scan-begins _ _ _)
+loop-holds c = (search needs, search needs, search needs, search needs, scan-begins _ _ _)
 
 arc-slack-fault-requires : tie.Need-arc-slack-fault-requires Inv-loop μ-loop
 arc-slack-fault-requires c κs = search needs
@@ -43,7 +46,7 @@ loop-less : tie.Need-loop-less Inv-loop μ-loop
 loop-less c = search needs
 
 loop-again : tie.Need-loop-again Inv-loop μ-loop
-loop-again c = (search needs, search needs, search needs, scan-turns _ _ _ _ _ (search needs) (search needs) (c .before .arc-slack-fault .ensures) (search needs))
+loop-again c = (search needs, search needs, search needs, search needs, scan-turns _ _ _ _ _ (search needs) (search needs) (c .before .arc-slack-fault .ensures) (search needs))
 
 new-requires-2 : tie.Need-new-requires-2 Inv-loop μ-loop
 new-requires-2 c κs = search needs
@@ -58,6 +61,7 @@ arc-slacks-spec =
     Inv-loop
     μ-loop
     vertex-count-requires
+    first-arc-at-requires
     arc-count-requires
     loop-holds
     arc-slack-fault-requires

@@ -4,7 +4,7 @@ use Prim.Native.Nat.{_-_}
 use native.Mathlib.Omega.{arith}
 use mathlib.Core.Path.{_≡_}
 use lib.ListN.{getD}
-use Rattle.forms.specs.GraphForm.{vertexCount, arcCount}
+use Rattle.forms.specs.GraphForm.{arcCount, firstArcAt}
 use Rattle.certify.specs.Certify.{arcPart}
 use Rattle.certify.proofs.CertifyLawsBound.{SumLeft, sum-begin, sum-turn, sum-end}
 use borrow.Author.Needs.{needs}
@@ -12,13 +12,13 @@ use Rattle.certify.proofs.arcs_sum.Statement.{statement}
 use Rattle.certify.proofs.arcs_sum.Tie as tie
 
 abbrev Inv-loop : tie.InvT-loop
-Inv-loop s t reads n count sum₀ a₀ sum a = (n ≡ vertexCount s) × (count ≡ arcCount s) × SumLeft (λ k. arcPart s t k (getD reads k 0)) (arcCount s) a sum
+Inv-loop s t reads base count sum₀ a₀ sum a = (base ≡ firstArcAt s) × (count ≡ arcCount s) × SumLeft (λ k. arcPart s t k (getD reads k 0)) (arcCount s) a sum
 
 abbrev μ-loop : tie.MeasureT-loop
-μ-loop s t reads n count sum₀ a₀ sum a = count - a
+μ-loop s t reads base count sum₀ a₀ sum a = count - a
 
-vertex-count-requires : tie.Need-vertex-count-requires Inv-loop μ-loop
-vertex-count-requires c κs = search needs
+first-arc-at-requires : tie.Need-first-arc-at-requires Inv-loop μ-loop
+first-arc-at-requires c κs = search needs
 
 arc-count-requires : tie.Need-arc-count-requires Inv-loop μ-loop
 arc-count-requires c κs = search needs
@@ -51,7 +51,7 @@ loop-again : tie.Need-loop-again Inv-loop μ-loop
 loop-again c = (search needs, search needs, sum-turn _ _ _ _ _ (search needs) (search needs) (c .arc-part .ensures))
 
 returns : tie.Need-returns Inv-loop μ-loop
-returns c = sum-end _ _ (c .before .loop .a) _ _ (c .before .loop .inv .2) (omega (arith, c .before .loop .inv .1, c .loop-test .left)) (c .before .before .before .before .before .before .pre .0 .0 .arcs .header .few-arcs)
+returns c = sum-end _ _ (c .before .loop .a) _ _ (c .before .loop .inv .2) (omega (arith, c .before .loop .inv .1, c .loop-test .left)) (c .before .before .before .before .before .before .pre .0 .0 .arcs .header .arcs-room)
 
 pub arcs-sum-spec : {M : Type 1} → statement M
 arcs-sum-spec =
@@ -59,7 +59,7 @@ arcs-sum-spec =
     (tie.spec
     Inv-loop
     μ-loop
-    vertex-count-requires
+    first-arc-at-requires
     arc-count-requires
     loop-holds
     mul-arc-part

@@ -2,7 +2,7 @@
 use Prim.Native.Nat.{_-_, _≤_}
 use mathlib.Core.Path.{_≡_, _∙_, refl}
 use native.Mathlib.Omega.{arith}
-use Rattle.forms.specs.GraphForm.{vertexCount, arcCount}
+use Rattle.forms.specs.GraphForm.{vertexCount, arcCount, firstArcAt}
 use Rattle.forms.specs.GraphFaults.{firstFault}
 use Rattle.certify.specs.Certify.{arcUnmet, arcPlace}
 use Rattle.forms.proofs.Scan.{scan-begins, scan-turns, scan-stops, scan-ends}
@@ -12,19 +12,22 @@ use Rattle.certify.proofs.arcs_unmet.Statement.{statement}
 use Rattle.certify.proofs.arcs_unmet.Tie as tie
 
 abbrev Inv-loop : tie.InvT-loop
-Inv-loop s totals n count a₀ a = (n ≡ vertexCount s) × (count ≡ arcCount s) × (a ≤ count) × (firstFault (arcUnmet s totals) (arcPlace s) (arcCount s) 0 ≡ firstFault (arcUnmet s totals) (arcPlace s) (arcCount s - a) a)
+Inv-loop s totals n base count a₀ a = (n ≡ vertexCount s) × (base ≡ firstArcAt s) × (count ≡ arcCount s) × (a ≤ count) × (firstFault (arcUnmet s totals) (arcPlace s) (arcCount s) 0 ≡ firstFault (arcUnmet s totals) (arcPlace s) (arcCount s - a) a)
 
 abbrev μ-loop : tie.MeasureT-loop
-μ-loop s totals n count a₀ a = count - a
+μ-loop s totals n base count a₀ a = count - a
 
 vertex-count-requires : tie.Need-vertex-count-requires Inv-loop μ-loop
 vertex-count-requires c κs = search needs
+
+first-arc-at-requires : tie.Need-first-arc-at-requires Inv-loop μ-loop
+first-arc-at-requires c κs = search needs
 
 arc-count-requires : tie.Need-arc-count-requires Inv-loop μ-loop
 arc-count-requires c κs = search needs
 
 loop-holds : tie.Need-loop-holds Inv-loop μ-loop
-loop-holds c = (search needs, search needs, search needs, scan-begins _ _ _)
+loop-holds c = (search needs, search needs, search needs, search needs, scan-begins _ _ _)
 
 mul-if1 : tie.Need-mul-if1 Inv-loop μ-loop
 mul-if1 c = search needs
@@ -33,7 +36,7 @@ element-copy-out-if1 : tie.Need-element-copy-out-if1 Inv-loop μ-loop
 element-copy-out-if1 c = search needs
 
 arc-demand-requires : tie.Need-arc-demand-requires Inv-loop μ-loop
-arc-demand-requires c κs = (search needs, c .before .before .before .before .before .before .pre .arcs .each (c .before .before .loop .a) (search needs) .whole)
+arc-demand-requires c κs = (search needs, c .before .before .before .before .before .before .before .pre .arcs .each (c .before .before .loop .a) (search needs) .whole)
 
 add-new : tie.Need-add-new Inv-loop μ-loop
 add-new c = search needs
@@ -51,7 +54,7 @@ loop-less : tie.Need-loop-less Inv-loop μ-loop
 loop-less c = search needs
 
 loop-again : tie.Need-loop-again Inv-loop μ-loop
-loop-again c = (search needs, search needs, search needs, scan-turns _ _ _ _ 0 (search needs) (search needs) (arc-met _ _ _ (search needs)) refl)
+loop-again c = (search needs, search needs, search needs, search needs, scan-turns _ _ _ _ 0 (search needs) (search needs) (arc-met _ _ _ (search needs)) refl)
 
 new-requires-2 : tie.Need-new-requires-2 Inv-loop μ-loop
 new-requires-2 c κs = search needs
@@ -66,6 +69,7 @@ arcs-unmet-spec =
     Inv-loop
     μ-loop
     vertex-count-requires
+    first-arc-at-requires
     arc-count-requires
     loop-holds
     mul-if1

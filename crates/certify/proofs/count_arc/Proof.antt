@@ -20,19 +20,19 @@ returns : tie.Need-returns
 returns c = arc-none _ (c .before .before .before .before .pre .0 .0 .arcs) _ _ _ (search needs) (sym (c .enum-told .given .1) ∙ c .before .before .find-arc .ensures)
 
 mul-arc-reads : tie.Need-mul-arc-reads
-mul-arc-reads c = omega (arith, found-arc _ _ _ (c .before .before .before .before .before .pre .0 .0 .arcs) _ (sym (c .before .found .given .1) ∙ c .before .before .before .find-arc .ensures) .inside, c .before .before .before .before .before .pre .0 .0 .arcs .header .few-arcs)
+mul-arc-reads c = omega (arith, found-arc _ _ _ (c .before .before .before .before .before .pre .0 .0 .arcs) _ (sym (c .before .found .given .1) ∙ c .before .before .before .find-arc .ensures) .inside, c .before .before .before .before .before .pre .0 .0 .arcs .header .arcs-room)
 
 element-copy-out-arc-reads : tie.Need-element-copy-out-arc-reads
-element-copy-out-arc-reads c = omega (arith, found-arc _ _ _ (c .before .before .before .before .before .pre .0 .0 .arcs) _ (sym (c .before .found .given .1) ∙ c .before .before .before .find-arc .ensures) .inside, c .before .before .before .before .before .pre .0 .0 .arcs .header .few-arcs)
+element-copy-out-arc-reads c = omega (arith, found-arc _ _ _ (c .before .before .before .before .before .pre .0 .0 .arcs) _ (sym (c .before .found .given .1) ∙ c .before .before .before .find-arc .ensures) .inside, c .before .before .before .before .before .pre .0 .0 .arcs .header .arcs-room)
 
 add-arc-reads : tie.Need-add-arc-reads
 add-arc-reads c = omega (arith, c .before .before .before .before .before .before .pre .1 _ (found-arc _ _ _ (c .before .before .before .before .before .before .pre .0 .0 .arcs) _ (sym (c .before .before .found .given .1) ∙ c .before .before .before .before .find-arc .ensures) .inside))
 
 mul-arc-reads-2 : tie.Need-mul-arc-reads-2
-mul-arc-reads-2 c = omega (arith, found-arc _ _ _ (c .before .before .before .before .before .before .pre .0 .0 .arcs) _ (sym (c .before .before .found .given .1) ∙ c .before .before .before .before .find-arc .ensures) .inside, c .before .before .before .before .before .before .pre .0 .0 .arcs .header .few-arcs)
+mul-arc-reads-2 c = omega (arith, found-arc _ _ _ (c .before .before .before .before .before .before .pre .0 .0 .arcs) _ (sym (c .before .before .found .given .1) ∙ c .before .before .before .before .find-arc .ensures) .inside, c .before .before .before .before .before .before .pre .0 .0 .arcs .header .arcs-room)
 
 element-write-arc-reads : tie.Need-element-write-arc-reads
-element-write-arc-reads c = omega (arith, found-arc _ _ _ (c .before .before .before .before .before .before .pre .0 .0 .arcs) _ (sym (c .before .before .found .given .1) ∙ c .before .before .before .before .find-arc .ensures) .inside, c .before .before .before .before .before .before .pre .0 .0 .arcs .header .few-arcs)
+element-write-arc-reads c = omega (arith, found-arc _ _ _ (c .before .before .before .before .before .before .pre .0 .0 .arcs) _ (sym (c .before .before .found .given .1) ∙ c .before .before .before .before .find-arc .ensures) .inside, c .before .before .before .before .before .before .pre .0 .0 .arcs .header .arcs-room)
 
 returns-2 : tie.Need-returns-2
 returns-2 c = arc-one _ (c .before .before .before .before .before .before .pre .0 .0 .arcs) _ _ _ (search needs) _ (sym (c .before .before .found .given .1) ∙ c .before .before .before .before .find-arc .ensures)

@@ -2,6 +2,7 @@
 use Prim.Native.Nat.{_-_}
 use native.Mathlib.Omega.{arith}
 use Rattle.certify.proofs.CertifyLawsTable.{Loading, load-begin, load-next, load-turn, load-end}
+use Rattle.forms.proofs.LayoutLaws.{read-length-room}
 use borrow.Author.Needs.{needs}
 use Rattle.certify.proofs.load_reads.Statement.{statement}
 use Rattle.certify.proofs.load_reads.Tie as tie
@@ -25,10 +26,10 @@ read-length-requires : tie.Need-read-length-requires Inv-loop μ-loop
 read-length-requires c κs = load-next (c .before .loop .inv) (search needs) .begins
 
 read-vertices-at-requires : tie.Need-read-vertices-at-requires Inv-loop μ-loop
-read-vertices-at-requires c κs = load-next (c .before .before .loop .inv) (search needs) .begins
+read-vertices-at-requires c κs = omega (arith, load-next (c .before .before .loop .inv) (search needs) .begins)
 
 row-of-requires : tie.Need-row-of-requires Inv-loop μ-loop
-row-of-requires c κs = omega (arith, load-next (c .before .before .before .loop .inv) (search needs) .whole, load-next (c .before .before .before .loop .inv) (search needs) .not-long)
+row-of-requires c κs = omega (arith, load-next (c .before .before .before .loop .inv) (search needs) .whole, load-next (c .before .before .before .loop .inv) (search needs) .not-long, read-length-room (c .before .before .before .before .before .before .before .args .s .now))
 
 mul-row : tie.Need-mul-row Inv-loop μ-loop
 mul-row c = search needs

@@ -9,9 +9,10 @@ use Rattle.forms.specs.Bytes.{part}
 use borrow.Author.Needs.{needs}
 use Rattle.certify.proofs.row_of.Statement.{statement}
 use Rattle.certify.proofs.row_of.Tie as tie
+use Rattle.reads.specs.ReadTable.{rowLength}
 
 abbrev Inv-loop : tie.InvT-loop
-Inv-loop s at len row₀ i₀ row i = (i ≤ len) × (length row ≡ 64) × (take i row ≡ part s at i)
+Inv-loop s at len row₀ i₀ row i = (i ≤ len) × (length row ≡ rowLength) × (take i row ≡ part s at i)
 
 abbrev μ-loop : tie.MeasureT-loop
 μ-loop s at len row₀ i₀ row i = len - i

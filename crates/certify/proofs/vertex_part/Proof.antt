@@ -1,4 +1,5 @@
 -- `certify::vertex_part` gives a vertex's part of the bound: its slack is the difference of its marks with the limit added.
+use Rattle.certify.proofs.CertifyLaws.{in-mark-within, out-mark-within}
 use native.Mathlib.Omega.{arith}
 use Prim.Native.Nat.{_+_, _-_}
 use Rattle.certify.proofs.CertifyLawsBound.{small, vertex-ordered, vertex-part}
@@ -16,10 +17,10 @@ add-owed : tie.Need-add-owed
 add-owed c = search needs
 
 in-mark-plus-requires : tie.Need-in-mark-plus-requires
-in-mark-plus-requires c κs = (search needs, c .before .before .before .before .pre .0 .1 .into _ (search needs))
+in-mark-plus-requires c κs = (in-mark-within (c .before .before .before .before .pre .0 .1) (search needs), c .before .before .before .before .pre .0 .1 .into _ (search needs))
 
 out-mark-plus-requires : tie.Need-out-mark-plus-requires
-out-mark-plus-requires c κs = (search needs, c .before .before .before .before .before .pre .0 .1 .out _ (search needs))
+out-mark-plus-requires c κs = (out-mark-within (c .before .before .before .before .before .pre .0 .1) (search needs), c .before .before .before .before .before .pre .0 .1 .out _ (search needs))
 
 sub-result : tie.Need-sub-result
 sub-result c = vertex-ordered _ _ _ (c .before .in-mark-plus .result) (c .out-mark-plus .result) (c .before .in-mark-plus .ensures .0) (c .out-mark-plus .ensures .0) (c .before .before .before .before .before .before .pre .1 .0 .vertices (c .before .before .before .before .before .before .args .v) (search needs))

@@ -10,10 +10,10 @@ use Rattle.certify.proofs.vertex_slacks.Statement.{statement}
 use Rattle.certify.proofs.vertex_slacks.Tie as tie
 
 abbrev Inv-loop : tie.InvT-loop
-Inv-loop s t n v₀ v = (n ≡ vertexCount s) × (v ≤ n) × (firstFault (vertexSlackFault s t) (λ k. k) (vertexCount s) 0 ≡ firstFault (vertexSlackFault s t) (λ k. k) (vertexCount s - v) v)
+Inv-loop s roles t n v₀ v = (n ≡ vertexCount s) × (v ≤ n) × (firstFault (vertexSlackFault s t) (λ k. k) (vertexCount s) 0 ≡ firstFault (vertexSlackFault s t) (λ k. k) (vertexCount s - v) v)
 
 abbrev μ-loop : tie.MeasureT-loop
-μ-loop s t n v₀ v = n - v
+μ-loop s roles t n v₀ v = n - v
 
 vertex-count-requires : tie.Need-vertex-count-requires Inv-loop μ-loop
 vertex-count-requires c κs = search needs

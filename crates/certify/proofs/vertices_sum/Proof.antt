@@ -48,7 +48,7 @@ loop-again : tie.Need-loop-again Inv-loop μ-loop
 loop-again c = (search needs, sum-turn _ _ _ _ _ (search needs) (search needs) (c .vertex-part .ensures))
 
 returns : tie.Need-returns Inv-loop μ-loop
-returns c = sum-end _ _ (c .before .loop .v) _ _ (c .before .loop .inv .1) (omega (arith, c .before .loop .inv .0, c .loop-test .left)) (c .before .before .before .before .before .pre .0 .0 .arcs .header .few-vertices)
+returns c = sum-end _ _ (c .before .loop .v) _ _ (c .before .loop .inv .1) (omega (arith, c .before .loop .inv .0, c .loop-test .left)) (c .before .before .before .before .before .pre .0 .0 .arcs .header .vertices-room)
 
 pub vertices-sum-spec : {M : Type 1} → statement M
 vertices-sum-spec =

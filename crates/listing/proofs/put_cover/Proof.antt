@@ -6,10 +6,10 @@ use mathlib.Core.List.{List, _++_}
 use denote.Ref.{now}
 use borrow.Author.Needs.{needs}
 use Rattle.forms.specs.AnswerForm.{pathCount}
-use Rattle.listing.specs.Text.{coverWord, pairLine, boundLine}
+use Rattle.text.proofs.Storing.{Still, still-next, still-room, still-fits, still-last}
+use Rattle.listing.specs.Lines.{coverWord, pairLine, boundLine}
 use Rattle.listing.specs.Listing.{pathLines, coverListing}
-use Rattle.listing.proofs.Storing.{Still, still-next, still-room, still-fits, still-last}
-use Rattle.listing.proofs.Accepted.{answer-long, listing-begins}
+use Rattle.listing.proofs.Accepted.{answer-long, listing-begins, bound-next}
 use Rattle.listing.proofs.put_cover.Statement.{statement}
 use Rattle.listing.proofs.put_cover.Tie as tie
 
@@ -66,13 +66,13 @@ put-paths-requires c κs =
     (begun (l .before) .pre .0, still-room (paths (l .before)) _ (after-first l))
 
 put-bound-line-requires : tie.Need-put-bound-line-requires
-put-bound-line-requires c κs = still-fits (after-paths (c .before .before .before))
+put-bound-line-requires c κs = still-fits (bound-next (search needs) (after-paths (c .before .before .before)))
 
 same-length : tie.Need-same-length
 same-length c = search needs
 
 returns : tie.Need-returns
-returns c = still-last (c .before .before .put-bound-line .ensures) (after-paths (c .before .before .before .before .before .before))
+returns c = still-last (c .before .before .put-bound-line .ensures) (bound-next (search needs) (after-paths (c .before .before .before .before .before .before)))
 
 pub put-cover-spec : {M : Type 1} → statement M
 put-cover-spec =

@@ -1,61 +1,40 @@
 -- `reach::arc_lacks` meets its contract.
-use borrow.Author.Needs.{needs}
 use native.Mathlib.Omega.{arith}
 use mathlib.Core.Path.{sym, _∙_}
-use Rattle.reach.proofs.ReachLawsLacking.{ask-nothing, ask-lies, ask-lacks, marked-lies}
+use Rattle.reach.proofs.ReachLaws.{arc-inside, tail-low, head-low}
+use Rattle.reach.proofs.ReachLawsLacking.{ask-nothing, ask-lies, ask-lacks, reachable-lies}
 use Rattle.reach.proofs.arc_lacks.Statement.{statement}
 use Rattle.reach.proofs.arc_lacks.Tie as tie
-use Rattle.reach.proofs.arc_lacks.Reads as reads
-use Rattle.reach.proofs.arc_lacks.Lts as lts
-use Rattle.reach.proofs.lies.Reads as lies-reads
-use Rattle.forms.proofs.bytes.be32.Reads as be32-reads
-use Rattle.forms.proofs.bytes.wide.Reads as wide-reads
 
-add-be32 : tie.Need-add-be32
-add-be32 c = search needs
-
-be32-requires : tie.Need-be32-requires
-be32-requires c κs = omega (arith, c .before .pre .1 .whole)
+arc-demand-requires : tie.Need-arc-demand-requires
+arc-demand-requires c κs = (c .before .pre .1, c .before .pre .0 .reads .arcs .each (c .before .args .a) (c .before .pre .2) .whole)
 
 returns : tie.Need-returns
-returns c = ask-nothing _ _ (sym (c .before .be32 .ensures .0) ∙ c .if1 .taken)
+returns c = ask-nothing _ _ (sym (c .before .arc-demand .ensures .0) ∙ c .if1 .taken)
 
-shared-slice-read-wide : tie.Need-shared-slice-read-wide
-shared-slice-read-wide c = omega (arith, c .before .before .before .before .pre .1 .whole)
+arc-tail-requires : tie.Need-arc-tail-requires
+arc-tail-requires c κs = (c .before .before .before .pre .1, c .before .before .before .pre .0 .reads .arcs .each (c .before .before .before .args .a) (c .before .before .before .pre .2) .whole)
 
-wide-requires : tie.Need-wide-requires
-wide-requires c κs = search needs
-
-add-wide : tie.Need-add-wide
-add-wide c = omega (arith, c .before .before .before .before .before .pre .1 .whole)
-
-shared-slice-read-wide-2 : tie.Need-shared-slice-read-wide-2
-shared-slice-read-wide-2 c = omega (arith, c .before .before .before .before .before .before .pre .1 .whole)
-
-wide-requires-2 : tie.Need-wide-requires-2
-wide-requires-2 c κs = search needs
+arc-head-requires : tie.Need-arc-head-requires
+arc-head-requires c κs = (c .before .before .before .before .pre .1, c .before .before .before .before .pre .0 .reads .arcs .each (c .before .before .before .before .args .a) (c .before .before .before .before .pre .2) .whole)
 
 lies-requires : tie.Need-lies-requires
-lies-requires c κs = omega (arith, c .before .before .before .before .before .before .before .pre .0 .reads .arcs .header .few-vertices, c .before .before .before .before .before .before .before .pre .1 .inside, c .before .before .before .before .before .before .before .pre .1 .rises, c .wide2 .ensures .0, c .before .before .wide .ensures .0)
+lies-requires c κs = (tail-low _ (c .before .before .before .before .before .pre .0 .reads .arcs) (c .before .before .before .before .before .pre .2) (c .before .arc-tail .ensures .0), head-low _ (c .before .before .before .before .before .pre .0 .reads .arcs) (c .before .before .before .before .before .pre .2) (c .arc-head .ensures .0))
 
 returns-2 : tie.Need-returns-2
-returns-2 c = ask-lies _ _ (marked-lies (c .before .before .before .before .before .before .before .before .before .pre .0) (c .before .before .before .before .wide .ensures .0) (c .before .before .wide2 .ensures .0) (omega (arith, c .before .before .before .before .before .before .before .before .before .pre .1 .inside, c .before .before .before .before .before .before .before .before .before .pre .1 .rises)) (c .before .before .before .before .before .before .before .before .before .pre .1 .inside) (c .before .lies .ensures) (c .if2 .taken))
+returns-2 c = ask-lies _ _ (reachable-lies (c .before .before .before .before .before .before .before .pre .0) (c .before .before .before .arc-tail .ensures .0) (c .before .before .arc-head .ensures .0) (omega (arith, arc-inside _ (c .before .before .before .before .before .before .before .pre .0 .reads .arcs) (c .before .before .before .before .before .before .before .args .a) (c .before .before .before .before .before .before .before .pre .2))) (c .before .before .before .before .before .before .before .pre .0 .reads .arcs .each (c .before .before .before .before .before .before .before .args .a) (c .before .before .before .before .before .before .before .pre .2) .inside) (c .before .lies .ensures) (c .if2 .taken))
 
 returns-3 : tie.Need-returns-3
-returns-3 c = ask-lacks _ _ (λ z. c .before .before .before .before .before .before .if1 .left (c .before .before .before .before .before .before .before .be32 .ensures .0 ∙ z)) (marked-lies (c .before .before .before .before .before .before .before .before .before .pre .0) (c .before .before .before .before .wide .ensures .0) (c .before .before .wide2 .ensures .0) (omega (arith, c .before .before .before .before .before .before .before .before .before .pre .1 .inside, c .before .before .before .before .before .before .before .before .before .pre .1 .rises)) (c .before .before .before .before .before .before .before .before .before .pre .1 .inside) (c .before .lies .ensures) (c .if2 .left))
+returns-3 c = ask-lacks _ _ (λ z. c .before .before .before .before .if1 .left (c .before .before .before .before .before .arc-demand .ensures .0 ∙ z)) (reachable-lies (c .before .before .before .before .before .before .before .pre .0) (c .before .before .before .arc-tail .ensures .0) (c .before .before .arc-head .ensures .0) (omega (arith, arc-inside _ (c .before .before .before .before .before .before .before .pre .0 .reads .arcs) (c .before .before .before .before .before .before .before .args .a) (c .before .before .before .before .before .before .before .pre .2))) (c .before .before .before .before .before .before .before .pre .0 .reads .arcs .each (c .before .before .before .before .before .before .before .args .a) (c .before .before .before .before .before .before .before .pre .2) .inside) (c .before .lies .ensures) (c .if2 .left))
 
 pub arc-lacks-spec : {M : Type 1} → statement M
 arc-lacks-spec =
     tie.close
     (tie.spec
-    add-be32
-    be32-requires
+    arc-demand-requires
     returns
-    shared-slice-read-wide
-    wide-requires
-    add-wide
-    shared-slice-read-wide-2
-    wide-requires-2
+    arc-tail-requires
+    arc-head-requires
     lies-requires
     returns-2
     returns-3)

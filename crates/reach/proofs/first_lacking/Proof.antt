@@ -5,48 +5,37 @@ use Rattle.forms.proofs.ThenLaws.{then-refused, then-passed}
 use Rattle.reach.proofs.ReachLawsLacking.{lie-then}
 use Rattle.reach.proofs.first_lacking.Statement.{statement}
 use Rattle.reach.proofs.first_lacking.Tie as tie
-use Rattle.reach.proofs.first_lacking.Reads as reads
-use Rattle.reach.proofs.first_lacking.Lts as lts
-use Rattle.reach.proofs.arcs_lie.Reads as arcs-lie-reads
-use Rattle.reach.proofs.reads_lie.Reads as reads-lie-reads
-use Rattle.reach.proofs.vertices_lie.Reads as vertices-lie-reads
-use Rattle.forms.proofs.bytes.be16.Reads as be16-reads
-use Rattle.forms.proofs.bytes.wide.Reads as wide-reads
 
-shared-slice-read-wide : tie.Need-shared-slice-read-wide
-shared-slice-read-wide c = search needs
+vertex-count-requires : tie.Need-vertex-count-requires
+vertex-count-requires c κs = search needs
 
-wide-requires : tie.Need-wide-requires
-wide-requires c κs = search needs
-
-be16-requires : tie.Need-be16-requires
-be16-requires c κs = search needs
+arc-count-requires : tie.Need-arc-count-requires
+arc-count-requires c κs = search needs
 
 vertices-lie-requires : tie.Need-vertices-lie-requires
 vertices-lie-requires c κs = search needs
 
 returns : tie.Need-returns
-returns c = then-refused _ (c .before .before .vertices-lie .ensures) (c .if1 .taken) ∙ sym (lie-then (record { reads = c .before .before .before .before .before .before .before .pre .reads; vertices = c .before .before .before .before .wide .ensures .0; arcs = c .before .before .before .be16 .ensures .0 }))
+returns c = then-refused _ (c .before .before .vertices-lie .ensures) (c .if1 .taken) ∙ sym (lie-then (record { reads = c .before .before .before .before .before .before .pre .reads; vertices = c .before .before .before .before .vertex-count .ensures .0; arcs = c .before .before .before .arc-count .ensures .0 }))
 
 arcs-lie-requires : tie.Need-arcs-lie-requires
 arcs-lie-requires c κs = search needs
 
 returns-2 : tie.Need-returns-2
-returns-2 c = then-passed (c .before .before .before .before .before .vertices-lie .ensures) (search needs) (then-refused _ (c .before .before .arcs-lie .ensures) (c .if2 .taken)) ∙ sym (lie-then (record { reads = c .before .before .before .before .before .before .before .before .before .before .pre .reads; vertices = c .before .before .before .before .before .before .before .wide .ensures .0; arcs = c .before .before .before .before .before .before .be16 .ensures .0 }))
+returns-2 c = then-passed (c .before .before .before .before .before .vertices-lie .ensures) (search needs) (then-refused _ (c .before .before .arcs-lie .ensures) (c .if2 .taken)) ∙ sym (lie-then (record { reads = c .before .before .before .before .before .before .before .before .before .pre .reads; vertices = c .before .before .before .before .before .before .before .vertex-count .ensures .0; arcs = c .before .before .before .before .before .before .arc-count .ensures .0 }))
 
 reads-lie-requires : tie.Need-reads-lie-requires
 reads-lie-requires c κs = search needs
 
 returns-3 : tie.Need-returns-3
-returns-3 c = then-passed (c .before .before .before .before .before .before .vertices-lie .ensures) (search needs) (then-passed (c .before .before .before .arcs-lie .ensures) (search needs) (c .reads-lie .ensures)) ∙ sym (lie-then (record { reads = c .before .before .before .before .before .before .before .before .before .before .before .pre .reads; vertices = c .before .before .before .before .before .before .before .before .wide .ensures .0; arcs = c .before .before .before .before .before .before .before .be16 .ensures .0 }))
+returns-3 c = then-passed (c .before .before .before .before .before .before .vertices-lie .ensures) (search needs) (then-passed (c .before .before .before .arcs-lie .ensures) (search needs) (c .reads-lie .ensures)) ∙ sym (lie-then (record { reads = c .before .before .before .before .before .before .before .before .before .before .pre .reads; vertices = c .before .before .before .before .before .before .before .before .vertex-count .ensures .0; arcs = c .before .before .before .before .before .before .before .arc-count .ensures .0 }))
 
 pub first-lacking-spec : {M : Type 1} → statement M
 first-lacking-spec =
     tie.close
     (tie.spec
-    shared-slice-read-wide
-    wide-requires
-    be16-requires
+    vertex-count-requires
+    arc-count-requires
     vertices-lie-requires
     returns
     arcs-lie-requires

@@ -1,36 +1,31 @@
 -- `reach::mark_starts` meets its contract.
 use borrow.Author.Needs.{needs}
-use Prim.Native.Nat.{_≤_, _-_, _%_}
+use Prim.Native.Nat.{_≤_, _-_}
 use native.Mathlib.Omega.{arith}
-use mathlib.Core.Path.{sym, ap, _∙_}
+use mathlib.Core.Path.{_≡_}
 use mathlib.Core.Bool.{false}
-use lib.Dec.{eqb}
 use Rattle.mathematics.specs.Graph.{isStart}
+use Rattle.forms.specs.GraphForm.{vertexCount}
 use Rattle.forms.specs.GraphOf.{graphOf}
-use Rattle.reach.proofs.ReachLaws.{Filled, fill-none, fill-more, start-is}
+use Rattle.forms.specs.Limits.{roomVertices}
+use Rattle.forms.proofs.Filling.{Filled, fill-none, fill-more}
 use Rattle.reach.proofs.mark_starts.Statement.{statement}
 use Rattle.reach.proofs.mark_starts.Tie as tie
 
 abbrev Inv-loop : tie.InvT-loop
-Inv-loop s n reached₀ v₀ reached v = (v ≤ n) × Filled 64 false (isStart (graphOf s)) reached v
+Inv-loop s roles reached₀ n v₀ reached v = (n ≡ vertexCount s) × (v ≤ n) × Filled roomVertices false (isStart (graphOf s)) reached v
 
 abbrev μ-loop : tie.MeasureT-loop
-μ-loop s n reached₀ v₀ reached v = n - v
+μ-loop s roles reached₀ n v₀ reached v = n - v
+
+vertex-count-requires : tie.Need-vertex-count-requires Inv-loop μ-loop
+vertex-count-requires c κs = search needs
 
 loop-holds : tie.Need-loop-holds Inv-loop μ-loop
-loop-holds c = (search needs, fill-none (search needs))
+loop-holds c = (search needs, search needs, fill-none (search needs))
 
-mul-wide : tie.Need-mul-wide Inv-loop μ-loop
-mul-wide c = search needs
-
-add-wide : tie.Need-add-wide Inv-loop μ-loop
-add-wide c = search needs
-
-shared-slice-read-wide : tie.Need-shared-slice-read-wide Inv-loop μ-loop
-shared-slice-read-wide c = omega (arith, c .before .before .before .before .pre .0 .vertices (c .before .before .loop .v) (omega arith) .whole)
-
-wide-requires : tie.Need-wide-requires Inv-loop μ-loop
-wide-requires c κs = search needs
+is-start-requires : tie.Need-is-start-requires Inv-loop μ-loop
+is-start-requires c κs = (search needs, omega (arith, c .before .before .before .before .pre .0 .arcs .header .vertices-room))
 
 element-write-reached : tie.Need-element-write-reached Inv-loop μ-loop
 element-write-reached c = search needs
@@ -42,10 +37,10 @@ loop-less : tie.Need-loop-less Inv-loop μ-loop
 loop-less c = search needs
 
 loop-again : tie.Need-loop-again Inv-loop μ-loop
-loop-again c = (search needs, fill-more (c .before .before .before .loop .inv .1) (search needs) (ap (λ w. eqb (w % 2) 1) (c .wide .ensures .0) ∙ sym (start-is _ _ (search needs))))
+loop-again c = (search needs, search needs, fill-more (c .before .before .loop .inv .2) (search needs) (c .is-start .ensures))
 
 returns : tie.Need-returns Inv-loop μ-loop
-returns c = record { long = c .before .loop .inv .1 .long; says = λ v l. c .before .loop .inv .1 .each v (omega arith) }
+returns c = record { long = c .before .loop .inv .2 .long; says = λ v l. c .before .loop .inv .2 .each v (omega arith) }
 
 pub mark-starts-spec : {M : Type 1} → statement M
-mark-starts-spec = tie.close (tie.spec Inv-loop μ-loop loop-holds mul-wide add-wide shared-slice-read-wide wide-requires element-write-reached add-v loop-less loop-again returns)
+mark-starts-spec = tie.close (tie.spec Inv-loop μ-loop vertex-count-requires loop-holds is-start-requires element-write-reached add-v loop-less loop-again returns)

@@ -1,91 +1,61 @@
 -- `reach::reach_ends` meets its contract: the arcs from a on are done.
 use borrow.Author.Needs.{needs}
-use Prim.Native.Nat.{_+_, _*_, _≤_, _-_}
+use Prim.Native.Nat.{_≤_, _-_}
 use native.Mathlib.Omega.{arith}
-use mathlib.Core.Path.{_≡_, refl}
-use Rattle.forms.specs.GraphForm.{arcCount}
-use Rattle.reach.specs.Reached.{Counted}
-use Rattle.reach.proofs.ReachLaws.{record-whole, tail-read, head-read, tail-low, head-low}
+use mathlib.Core.Path.{_≡_}
+use Rattle.forms.specs.GraphForm.{arcCount, firstArcAt}
+use Rattle.reach.proofs.ReachLaws.{tail-low, head-low}
 use Rattle.reach.proofs.ReachLawsPass.{Back, back-begins, back-over, back-on, back-ends}
 use Rattle.reach.proofs.reach_ends.Statement.{statement}
 use Rattle.reach.proofs.reach_ends.Tie as tie
-use Rattle.reach.proofs.reach_ends.Reads as reads
-use Rattle.reach.proofs.reach_ends.Lts as lts
-use Rattle.reach.proofs.mark_ends.Reads as mark-ends-reads
-use Rattle.forms.proofs.bytes.be16.Reads as be16-reads
-use Rattle.forms.proofs.bytes.wide.Reads as wide-reads
 
 abbrev Inv-loop : tie.InvT-loop
-Inv-loop s reaching₀ n base a₀ reaching a = Counted s n (arcCount s) × (base ≡ 13 + 5 * n) × (a ≤ arcCount s) × Back s a reaching
+Inv-loop s roles reaching₀ base a₀ reaching a = (base ≡ firstArcAt s) × (a ≤ arcCount s) × Back s a reaching
 
 abbrev μ-loop : tie.MeasureT-loop
-μ-loop s reaching₀ n base a₀ reaching a = a
+μ-loop s roles reaching₀ base a₀ reaching a = a
 
-shared-slice-read-wide : tie.Need-shared-slice-read-wide Inv-loop μ-loop
-shared-slice-read-wide c = search needs
-
-wide-requires : tie.Need-wide-requires Inv-loop μ-loop
-wide-requires c κs = search needs
-
-mul-base : tie.Need-mul-base Inv-loop μ-loop
-mul-base c = search needs
-
-add-base : tie.Need-add-base Inv-loop μ-loop
-add-base c = search needs
+first-arc-at-requires : tie.Need-first-arc-at-requires Inv-loop μ-loop
+first-arc-at-requires c κs = search needs
 
 mark-ends-requires : tie.Need-mark-ends-requires Inv-loop μ-loop
 mark-ends-requires c κs = search needs
 
-be16-requires : tie.Need-be16-requires Inv-loop μ-loop
-be16-requires c κs = search needs
+arc-count-requires : tie.Need-arc-count-requires Inv-loop μ-loop
+arc-count-requires c κs = search needs
 
 loop-holds : tie.Need-loop-holds Inv-loop μ-loop
-loop-holds c = (record { reads = search needs; vertices = search needs; arcs = refl }, search needs, search needs, back-begins _ (search needs) (c .before .mark-ends .ensures) (search needs))
+loop-holds c = (search needs, search needs, back-begins _ (c .before .before .before .before .before .pre .0) (c .before .mark-ends .ensures) (search needs))
 
 sub-a : tie.Need-sub-a Inv-loop μ-loop
 sub-a c = search needs
 
-mul-at : tie.Need-mul-at Inv-loop μ-loop
-mul-at c = search needs
+arc-tail-requires : tie.Need-arc-tail-requires Inv-loop μ-loop
+arc-tail-requires c κs = (c .before .loop .inv .0, c .before .before .before .before .before .before .before .pre .0 .arcs .each (c .before .loop .a - 1) (omega arith) .whole)
 
-add-at : tie.Need-add-at Inv-loop μ-loop
-add-at c = search needs
-
-add-wide : tie.Need-add-wide Inv-loop μ-loop
-add-wide c = search needs
-
-shared-slice-read-wide-2 : tie.Need-shared-slice-read-wide-2 Inv-loop μ-loop
-shared-slice-read-wide-2 c = omega (arith, record-whole (c .before .before .loop .inv .0) (c .before .before .loop .a - 1) (omega arith))
-
-wide-requires-2 : tie.Need-wide-requires-2 Inv-loop μ-loop
-wide-requires-2 c κs = search needs
+arc-head-requires : tie.Need-arc-head-requires Inv-loop μ-loop
+arc-head-requires c κs = (c .before .before .loop .inv .0, c .before .before .before .before .before .before .before .before .pre .0 .arcs .each (c .before .before .loop .a - 1) (omega arith) .whole)
 
 element-copy-out-if1 : tie.Need-element-copy-out-if1 Inv-loop μ-loop
-element-copy-out-if1 c = head-low (c .before .before .before .loop .inv .0) (c .before .before .before .loop .a - 1) (omega arith) (c .wide2 .ensures .0) (search needs)
-
-shared-slice-read-wide-3 : tie.Need-shared-slice-read-wide-3 Inv-loop μ-loop
-shared-slice-read-wide-3 c = omega (arith, record-whole (c .before .before .before .before .before .before .loop .inv .0) (c .before .before .before .before .before .before .loop .a - 1) (omega arith))
-
-wide-requires-3 : tie.Need-wide-requires-3 Inv-loop μ-loop
-wide-requires-3 c κs = search needs
+element-copy-out-if1 c = head-low _ (c .before .before .before .before .before .before .before .before .before .pre .0 .arcs) {a = c .before .before .before .loop .a - 1} (omega arith) (c .arc-head .ensures .0)
 
 element-write-reaching : tie.Need-element-write-reaching Inv-loop μ-loop
-element-write-reaching c = tail-low (c .before .before .before .before .before .before .before .loop .inv .0) (c .before .before .before .before .before .before .before .loop .a - 1) (omega arith) (c .wide3 .ensures .0) (search needs)
+element-write-reaching c = tail-low _ (c .before .before .before .before .before .before .before .before .before .before .before .pre .0 .arcs) {a = c .before .before .before .before .before .loop .a - 1} (omega arith) (c .before .before .before .arc-tail .ensures .0)
 
 loop-less : tie.Need-loop-less Inv-loop μ-loop
 loop-less c = search needs
 
 loop-again : tie.Need-loop-again Inv-loop μ-loop
-loop-again c = (c .before .before .before .before .before .before .before .loop .inv .0, search needs, search needs, back-on _ (c .before .before .before .before .before .before .before .loop .inv .0 .reads) (c .before .before .before .before .before .before .before .loop .a - 1) _ (c .before .before .before .before .before .before .before .loop .inv .3) (omega arith) (omega arith) (head-read (c .before .before .before .before .before .before .before .loop .inv .0) (c .before .before .before .before .before .before .before .loop .a - 1) (omega arith) (c .before .before .before .before .wide2 .ensures .0) (search needs)) (c .before .before .if1 .taken) (tail-read (c .before .before .before .before .before .before .before .loop .inv .0) (c .before .before .before .before .before .before .before .loop .a - 1) (omega arith) (c .wide3 .ensures .0) (search needs)))
+loop-again c = (search needs, search needs, back-on _ (c .before .before .before .before .before .before .before .before .before .before .before .pre .0) (c .before .before .before .before .before .loop .a - 1) _ (c .before .before .before .before .before .loop .inv .2) (omega arith) (omega arith) (c .before .before .arc-head .ensures .0) (c .if1 .taken) (c .before .before .before .arc-tail .ensures .0))
 
 loop-less-2 : tie.Need-loop-less-2 Inv-loop μ-loop
 loop-less-2 c = search needs
 
 loop-again-2 : tie.Need-loop-again-2 Inv-loop μ-loop
-loop-again-2 c = (c .before .before .before .before .before .loop .inv .0, search needs, search needs, back-over _ (c .before .before .before .before .before .loop .inv .0 .reads) (c .before .before .before .before .before .loop .a - 1) _ (c .before .before .before .before .before .loop .inv .3) (omega arith) (omega arith) (head-read (c .before .before .before .before .before .loop .inv .0) (c .before .before .before .before .before .loop .a - 1) (omega arith) (c .before .before .wide2 .ensures .0) (search needs)) (c .if1 .left))
+loop-again-2 c = (search needs, search needs, back-over _ (c .before .before .before .before .before .before .before .before .before .before .before .pre .0) (c .before .before .before .before .before .loop .a - 1) _ (c .before .before .before .before .before .loop .inv .2) (omega arith) (omega arith) (c .before .before .arc-head .ensures .0) (c .if1 .left))
 
 returns : tie.Need-returns Inv-loop μ-loop
-returns c = back-ends _ (c .before .loop .inv .0 .reads) (c .before .loop .inv .3) (search needs)
+returns c = back-ends _ (c .before .before .before .before .before .before .before .pre .0) (c .before .loop .inv .2) (search needs)
 
 pub reach-ends-spec : {M : Type 1} → statement M
 reach-ends-spec =
@@ -93,22 +63,14 @@ reach-ends-spec =
     (tie.spec
     Inv-loop
     μ-loop
-    shared-slice-read-wide
-    wide-requires
-    mul-base
-    add-base
+    first-arc-at-requires
     mark-ends-requires
-    be16-requires
+    arc-count-requires
     loop-holds
     sub-a
-    mul-at
-    add-at
-    add-wide
-    shared-slice-read-wide-2
-    wide-requires-2
+    arc-tail-requires
+    arc-head-requires
     element-copy-out-if1
-    shared-slice-read-wide-3
-    wide-requires-3
     element-write-reaching
     loop-less
     loop-again

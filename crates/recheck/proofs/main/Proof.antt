@@ -1,7 +1,7 @@
 -- `recheck::main` is safe: the bytes that are to be written are within what was lent.
 -- Assumes nothing.
 use borrow.Author.Needs.{needs}
-use Rattle.listing.proofs.Writing.{written-fits, written-long}
+use Rattle.text.proofs.Writing.{written-fits, written-long}
 use Rattle.recheck.proofs.main.Statement.{statement}
 use Rattle.recheck.proofs.main.Tie as tie
 
@@ -26,26 +26,23 @@ load-requires-2 c κs = search needs
 array-share-prefix-graph : tie.Need-array-share-prefix-graph
 array-share-prefix-graph c = search needs
 
-slice-aggregate-list-inputs : tie.Need-slice-aggregate-list-inputs
-slice-aggregate-list-inputs c = search needs
+slice-aggregate-recheck : tie.Need-slice-aggregate-recheck
+slice-aggregate-recheck c = search needs
 
 array-share-prefix-answer : tie.Need-array-share-prefix-answer
 array-share-prefix-answer c = search needs
 
-slice-aggregate-list-inputs-2 : tie.Need-slice-aggregate-list-inputs-2
-slice-aggregate-list-inputs-2 c = search needs
+slice-aggregate-recheck-2 : tie.Need-slice-aggregate-recheck-2
+slice-aggregate-recheck-2 c = search needs
 
-slice-aggregate-list-inputs-3 : tie.Need-slice-aggregate-list-inputs-3
-slice-aggregate-list-inputs-3 c = search needs
-
-list-inputs-requires : tie.Need-list-inputs-requires
-list-inputs-requires c κs = search needs
+recheck-requires : tie.Need-recheck-requires
+recheck-requires c κs = search needs
 
 array-share-prefix-text : tie.Need-array-share-prefix-text
-array-share-prefix-text c = written-fits (c .before .list-inputs .ensures)
+array-share-prefix-text c = written-fits (c .recheck .ensures)
 
 slice-aggregate-write-all : tie.Need-slice-aggregate-write-all
-slice-aggregate-write-all c = written-long (c .before .before .list-inputs .ensures)
+slice-aggregate-write-all c = written-long (c .before .recheck .ensures)
 
 write-all-requires : tie.Need-write-all-requires
 write-all-requires c κs = search needs
@@ -64,11 +61,10 @@ main-spec =
     slice-aggregate-load-4
     load-requires-2
     array-share-prefix-graph
-    slice-aggregate-list-inputs
+    slice-aggregate-recheck
     array-share-prefix-answer
-    slice-aggregate-list-inputs-2
-    slice-aggregate-list-inputs-3
-    list-inputs-requires
+    slice-aggregate-recheck-2
+    recheck-requires
     array-share-prefix-text
     slice-aggregate-write-all
     write-all-requires

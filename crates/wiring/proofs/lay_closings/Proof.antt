@@ -1,50 +1,38 @@
-use Rattle.wiring.proofs.LayLaws.{counted, edges-at, lay-closing, vertex-whole}
+use Rattle.wiring.proofs.LayLaws.{counted, edges-at, lay-closing}
 use Rattle.paths.specs.Slots.{plainSlots}
 use Prim.Native.Nat.{_+_, _*_, _-_, _≤_}
 use native.Mathlib.Omega.{arith}
 use mathlib.Core.Path.{_≡_, refl}
 use Rattle.forms.specs.GraphForm.{vertexCount, arcCount}
-use Rattle.reach.specs.Reached.{Counted}
+use Rattle.reach.specs.Reached.{FormSizes}
 use Rattle.wiring.specs.Lay.{EdgesLaid}
 use borrow.Author.Needs.{needs}
 use Rattle.wiring.proofs.lay_closings.Statement.{statement}
 use Rattle.wiring.proofs.lay_closings.Tie as tie
 
 abbrev Inv-loop : tie.InvT-loop
-Inv-loop s kept from₀ to₀ cost₀ n m v₀ from to cost v = Counted s n m × (v ≤ n) × EdgesLaid s (2 * n + m + v) from to cost
+Inv-loop s roles kept from₀ to₀ cost₀ n m v₀ from to cost v = FormSizes s n m × (v ≤ n) × EdgesLaid s (2 * n + m + v) from to cost
 
 abbrev μ-loop : tie.MeasureT-loop
-μ-loop s kept from₀ to₀ cost₀ n m v₀ from to cost v = n - v
+μ-loop s roles kept from₀ to₀ cost₀ n m v₀ from to cost v = n - v
 
-shared-slice-read-wide : tie.Need-shared-slice-read-wide Inv-loop μ-loop
-shared-slice-read-wide c = search needs
+vertex-count-requires : tie.Need-vertex-count-requires Inv-loop μ-loop
+vertex-count-requires c κs = search needs
 
-wide-requires : tie.Need-wide-requires Inv-loop μ-loop
-wide-requires c κs = search needs
-
-be16-requires : tie.Need-be16-requires Inv-loop μ-loop
-be16-requires c κs = search needs
+arc-count-requires : tie.Need-arc-count-requires Inv-loop μ-loop
+arc-count-requires c κs = search needs
 
 loop-holds : tie.Need-loop-holds Inv-loop μ-loop
 loop-holds c =
-    let p = c .before .before .before .before .pre in
-    let n = c .before .wide .ensures .0 in
-    let m = c .be16 .ensures .0 in
-    let s = c .before .before .before .before .args .s .now in
-    let e : 2 * vertexCount s + arcCount s ≡ 2 * c .before .wide .result + c .be16 .result + 0 = omega (arith, n, m) in
+    let p = c .before .before .before .pre in
+    let n = c .before .vertex-count .ensures .0 in
+    let m = c .arc-count .ensures .0 in
+    let s = c .before .before .before .args .s .now in
+    let e : 2 * vertexCount s + arcCount s ≡ 2 * c .before .vertex-count .result + c .arc-count .result + 0 = omega (arith, n, m) in
     (counted (p .0 .0) n m, omega arith, edges-at (p .1) e)
 
-mul-wide : tie.Need-mul-wide Inv-loop μ-loop
-mul-wide c = search needs
-
-add-wide : tie.Need-add-wide Inv-loop μ-loop
-add-wide c = search needs
-
-shared-slice-read-wide-2 : tie.Need-shared-slice-read-wide-2 Inv-loop μ-loop
-shared-slice-read-wide-2 c = omega (arith, vertex-whole (c .before .before .loop .inv .0) (c .before .before .loop .v) (omega arith))
-
-wide-requires-2 : tie.Need-wide-requires-2 Inv-loop μ-loop
-wide-requires-2 c κs = search needs
+is-end-requires : tie.Need-is-end-requires Inv-loop μ-loop
+is-end-requires c κs = (search needs, omega (arith, c .before .before .before .before .before .pre .0 .0 .arcs .header .vertices-room, c .before .loop .inv .0 .vertices))
 
 element-copy-out-both : tie.Need-element-copy-out-both Inv-loop μ-loop
 element-copy-out-both c = search needs
@@ -78,21 +66,21 @@ loop-less c = search needs
 
 loop-again : tie.Need-loop-again Inv-loop μ-loop
 loop-again c =
-    let w = c .before .before .before .before .before .before .before .before .before .loop in
+    let w = c .before .before .before .before .before .before .before .before .loop in
     let i = w .inv in
-    let n = c .before .before .before .before .before .before .before .before .before .before .before .wide .result in
-    let m = c .before .before .before .before .before .before .before .before .before .before .be16 .result in
+    let n = c .before .before .before .before .before .before .before .before .before .before .vertex-count .result in
+    let m = c .before .before .before .before .before .before .before .before .before .arc-count .result in
     let e : 2 * n + m + w .v + 1 ≡ 2 * n + m + (w .v + 1) = omega arith in (
       i .0,
       omega arith,
-      edges-at (lay-closing (i .0) (i .2) (c .before .before .before .before .before .before .before .before .before .before .before .before .before .before .pre .0 .1) refl (c .before .before .before .before .before .before .before .before .loop-test .taken) (c .before .before .before .before .before .before .wide2 .ensures .0) (c .before .before .before .before .both .ensures) (c .store-edge .ensures)) e,
+      edges-at (lay-closing (i .0) (i .2) (c .before .before .before .before .before .before .before .before .before .before .before .before .pre .0 .2) refl (c .before .before .before .before .before .before .before .loop-test .taken) (c .before .before .before .before .before .before .is-end .ensures) (c .before .before .before .before .both .ensures) (c .store-edge .ensures)) e,
     )
 
 returns : tie.Need-returns Inv-loop μ-loop
 returns c =
     let i = c .before .loop .inv in
-    let s = c .before .before .before .before .before .before .args .s .now in
-    let e : 2 * c .before .before .before .wide .result + c .before .before .be16 .result + c .before .loop .v ≡ plainSlots s = omega (arith, i .0 .vertices, i .0 .arcs) in
+    let s = c .before .before .before .before .before .args .s .now in
+    let e : 2 * c .before .before .before .vertex-count .result + c .before .before .arc-count .result + c .before .loop .v ≡ plainSlots s = omega (arith, i .0 .vertices, i .0 .arcs) in
     edges-at (i .2) e
 
 pub lay-closings-spec : {M : Type 1} → statement M
@@ -101,14 +89,10 @@ lay-closings-spec =
     (tie.spec
     Inv-loop
     μ-loop
-    shared-slice-read-wide
-    wide-requires
-    be16-requires
+    vertex-count-requires
+    arc-count-requires
     loop-holds
-    mul-wide
-    add-wide
-    shared-slice-read-wide-2
-    wide-requires-2
+    is-end-requires
     element-copy-out-both
     both-requires
     mul-store-edge

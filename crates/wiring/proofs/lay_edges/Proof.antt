@@ -16,7 +16,7 @@ lay-closings-requires : tie.Need-lay-closings-requires
 lay-closings-requires c κs = search needs
 
 lay-reads-requires : tie.Need-lay-reads-requires
-lay-reads-requires c κs = ((search needs, c .before .before .before .before .before .before .before .before .before .before .before .before .before .before .before .before .before .before .before .before .pre .1 .0), search needs)
+lay-reads-requires c κs = ((c .before .before .before .before .before .before .before .before .before .before .before .before .before .before .before .before .before .before .before .before .pre .0 .0, c .before .before .before .before .before .before .before .before .before .before .before .before .before .before .before .before .before .before .before .before .pre .1 .0), search needs)
 
 returns : tie.Need-returns
 returns c = search needs

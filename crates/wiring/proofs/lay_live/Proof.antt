@@ -14,17 +14,14 @@ Inv-loop s kept live₀ n v₀ live v = (n ≡ vertexCount s) × (v ≤ n) × Li
 abbrev μ-loop : tie.MeasureT-loop
 μ-loop s kept live₀ n v₀ live v = n - v
 
-shared-slice-read-wide : tie.Need-shared-slice-read-wide Inv-loop μ-loop
-shared-slice-read-wide c = search needs
-
-wide-requires : tie.Need-wide-requires Inv-loop μ-loop
-wide-requires c κs = search needs
+vertex-count-requires : tie.Need-vertex-count-requires Inv-loop μ-loop
+vertex-count-requires c κs = search needs
 
 element-write-live : tie.Need-element-write-live Inv-loop μ-loop
 element-write-live c = search needs
 
 loop-holds : tie.Need-loop-holds Inv-loop μ-loop
-loop-holds c = (c .wide .ensures .0, omega arith, live-none (c .before .before .before .args .live .now) (c .before .before .before .pre .1))
+loop-holds c = (c .vertex-count .ensures .0, omega arith, live-none (c .before .before .args .live .now) (c .before .before .pre .1))
 
 element-copy-out-live : tie.Need-element-copy-out-live Inv-loop μ-loop
 element-copy-out-live c = search needs
@@ -59,13 +56,13 @@ loop-less c = search needs
 loop-again : tie.Need-loop-again Inv-loop μ-loop
 loop-again c =
     let i = c .before .before .before .loop .inv in
-    let p = c .before .before .before .before .before .before .before .pre in
+    let p = c .before .before .before .before .before .before .pre in
     (i .0, omega arith, live-more (p .0 .1) (i .2) (omega arith) (omega arith))
 
 returns : tie.Need-returns Inv-loop μ-loop
 returns c =
     let i = c .before .loop .inv in
-    let e : c .before .loop .v ≡ vertexCount (c .before .before .before .before .before .args .s .now) = omega arith in
+    let e : c .before .loop .v ≡ vertexCount (c .before .before .before .before .args .s .now) = omega arith in
     rw e at (i .2)
 
 pub lay-live-spec : {M : Type 1} → statement M
@@ -74,8 +71,7 @@ lay-live-spec =
     (tie.spec
     Inv-loop
     μ-loop
-    shared-slice-read-wide
-    wide-requires
+    vertex-count-requires
     element-write-live
     loop-holds
     element-copy-out-live

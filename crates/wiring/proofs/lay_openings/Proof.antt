@@ -1,42 +1,39 @@
-use Rattle.wiring.proofs.LayLaws.{counted, edges-at, lay-opening, vertex-whole}
+use Rattle.wiring.proofs.LayLaws.{counted, edges-at, lay-opening}
 use Prim.Native.Nat.{ℕ, _+_, _*_, _-_, _≤_}
 use native.Mathlib.Omega.{arith}
 use mathlib.Core.Path.{_≡_, refl, sym, ap₂}
 use Rattle.forms.specs.GraphForm.{vertexCount, arcCount, openingPrice}
-use Rattle.reach.specs.Reached.{Counted}
+use Rattle.reach.specs.Reached.{FormSizes}
 use Rattle.wiring.specs.Lay.{EdgesLaid}
 use borrow.Author.Needs.{needs}
 use Rattle.wiring.proofs.lay_openings.Statement.{statement}
 use Rattle.wiring.proofs.lay_openings.Tie as tie
 
 abbrev Inv-loop : tie.InvT-loop
-Inv-loop s kept from₀ to₀ cost₀ n m k e₀ from to cost e = Counted s n m × (k ≡ openingPrice s) × (n + m ≤ e) × (e ≤ 2 * n + m) × EdgesLaid s e from to cost
+Inv-loop s roles kept from₀ to₀ cost₀ n m k e₀ from to cost e = FormSizes s n m × (k ≡ openingPrice s) × (n + m ≤ e) × (e ≤ 2 * n + m) × EdgesLaid s e from to cost
 
 abbrev μ-loop : tie.MeasureT-loop
-μ-loop s kept from₀ to₀ cost₀ n m k e₀ from to cost e = 2 * n + m - e
+μ-loop s roles kept from₀ to₀ cost₀ n m k e₀ from to cost e = 2 * n + m - e
 
-shared-slice-read-wide : tie.Need-shared-slice-read-wide Inv-loop μ-loop
-shared-slice-read-wide c = search needs
+vertex-count-requires : tie.Need-vertex-count-requires Inv-loop μ-loop
+vertex-count-requires c κs = search needs
 
-wide-requires : tie.Need-wide-requires Inv-loop μ-loop
-wide-requires c κs = search needs
+arc-count-requires : tie.Need-arc-count-requires Inv-loop μ-loop
+arc-count-requires c κs = search needs
 
-be16-requires : tie.Need-be16-requires Inv-loop μ-loop
-be16-requires c κs = search needs
-
-be32-requires : tie.Need-be32-requires Inv-loop μ-loop
-be32-requires c κs = search needs
+opening-price-requires : tie.Need-opening-price-requires Inv-loop μ-loop
+opening-price-requires c κs = search needs
 
 add-e : tie.Need-add-e Inv-loop μ-loop
 add-e c = search needs
 
 loop-holds : tie.Need-loop-holds Inv-loop μ-loop
 loop-holds c =
-    let p = c .before .before .before .before .before .pre in
-    let n = c .before .before .wide .ensures .0 in
-    let m = c .before .be16 .ensures .0 in (
+    let p = c .before .before .before .before .pre in
+    let n = c .before .before .vertex-count .ensures .0 in
+    let m = c .before .arc-count .ensures .0 in (
       counted (p .0 .0) n m,
-      c .be32 .ensures .0,
+      c .opening-price .ensures .0,
       omega arith,
       omega arith,
       edges-at (p .1) (ap₂ (λ (a b : ℕ). a + b) (sym n) (sym m)),
@@ -60,17 +57,8 @@ add-v-2 c = search needs
 sub-v : tie.Need-sub-v Inv-loop μ-loop
 sub-v c = search needs
 
-mul-wide : tie.Need-mul-wide Inv-loop μ-loop
-mul-wide c = search needs
-
-add-wide : tie.Need-add-wide Inv-loop μ-loop
-add-wide c = search needs
-
-shared-slice-read-wide-2 : tie.Need-shared-slice-read-wide-2 Inv-loop μ-loop
-shared-slice-read-wide-2 c = omega (arith, vertex-whole (c .before .before .loop .inv .0) (2 * c .before .before .before .before .before .wide .result + c .before .before .before .before .be16 .result - (c .before .before .loop .e + 1)) (omega arith))
-
-wide-requires-2 : tie.Need-wide-requires-2 Inv-loop μ-loop
-wide-requires-2 c κs = search needs
+is-start-requires : tie.Need-is-start-requires Inv-loop μ-loop
+is-start-requires c κs = (search needs, omega (arith, c .before .before .before .before .before .before .pre .0 .0 .arcs .header .vertices-room, c .before .loop .inv .0 .vertices))
 
 element-copy-out-both : tie.Need-element-copy-out-both Inv-loop μ-loop
 element-copy-out-both c = search needs
@@ -95,18 +83,18 @@ loop-less c = search needs
 
 loop-again : tie.Need-loop-again Inv-loop μ-loop
 loop-again c =
-    let i = c .before .before .before .before .before .before .before .before .before .loop .inv in (
+    let i = c .before .before .before .before .before .before .before .before .loop .inv in (
       i .0,
       i .1,
       omega arith,
       omega arith,
-      lay-opening (i .0) (i .4) (c .before .before .before .before .before .before .before .before .before .before .before .before .before .before .before .pre .0 .1) refl (i .2) (c .before .before .before .before .before .before .before .before .loop-test .taken) (c .before .before .before .before .before .before .wide2 .ensures .0) (i .1) (c .before .before .before .before .both .ensures) (c .store-edge .ensures),
+      lay-opening (i .0) (i .4) (c .before .before .before .before .before .before .before .before .before .before .before .before .before .pre .0 .2) refl (i .2) (c .before .before .before .before .before .before .before .loop-test .taken) (c .before .before .before .before .before .before .is-start .ensures) (i .1) (c .before .before .before .before .both .ensures) (c .store-edge .ensures),
     )
 
 returns : tie.Need-returns Inv-loop μ-loop
 returns c =
     let i = c .before .loop .inv in
-    let s = c .before .before .before .before .before .before .before .args .s .now in
+    let s = c .before .before .before .before .before .before .args .s .now in
     let e : c .before .loop .e ≡ 2 * vertexCount s + arcCount s = omega (arith, i .0 .vertices, i .0 .arcs) in
     edges-at (i .4) e
 
@@ -116,10 +104,9 @@ lay-openings-spec =
     (tie.spec
     Inv-loop
     μ-loop
-    shared-slice-read-wide
-    wide-requires
-    be16-requires
-    be32-requires
+    vertex-count-requires
+    arc-count-requires
+    opening-price-requires
     add-e
     loop-holds
     mul-loop
@@ -128,10 +115,7 @@ lay-openings-spec =
     add-v
     add-v-2
     sub-v
-    mul-wide
-    add-wide
-    shared-slice-read-wide-2
-    wide-requires-2
+    is-start-requires
     element-copy-out-both
     both-requires
     mul-store-edge

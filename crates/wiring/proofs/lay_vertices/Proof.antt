@@ -14,11 +14,8 @@ Inv-loop s kept from₀ to₀ cost₀ n v₀ from to cost v = (n ≡ vertexCount
 abbrev μ-loop : tie.MeasureT-loop
 μ-loop s kept from₀ to₀ cost₀ n v₀ from to cost v = n - v
 
-shared-slice-read-wide : tie.Need-shared-slice-read-wide Inv-loop μ-loop
-shared-slice-read-wide c = search needs
-
-wide-requires : tie.Need-wide-requires Inv-loop μ-loop
-wide-requires c κs = search needs
+vertex-count-requires : tie.Need-vertex-count-requires Inv-loop μ-loop
+vertex-count-requires c κs = search needs
 
 loop-holds : tie.Need-loop-holds Inv-loop μ-loop
 loop-holds c = search needs
@@ -50,13 +47,13 @@ loop-less c = search needs
 loop-again : tie.Need-loop-again Inv-loop μ-loop
 loop-again c =
     let i = c .before .before .before .before .before .before .loop .inv in
-    let p = c .before .before .before .before .before .before .before .before .before .before .pre in
+    let p = c .before .before .before .before .before .before .before .before .before .pre in
     (i .0, omega arith, lay-vertex (counted (p .0 .0) (i .0) refl) (i .2) (p .0 .1) (omega arith) (c .store-edge .ensures))
 
 returns : tie.Need-returns Inv-loop μ-loop
 returns c =
     let i = c .before .loop .inv in
-    let e : c .before .loop .v ≡ vertexCount (c .before .before .before .before .before .args .s .now) = omega arith in
+    let e : c .before .loop .v ≡ vertexCount (c .before .before .before .before .args .s .now) = omega arith in
     edges-at (i .2) e
 
 pub lay-vertices-spec : {M : Type 1} → statement M
@@ -65,8 +62,7 @@ lay-vertices-spec =
     (tie.spec
     Inv-loop
     μ-loop
-    shared-slice-read-wide
-    wide-requires
+    vertex-count-requires
     loop-holds
     element-copy-out-store-edge
     mul-store-edge

@@ -1,5 +1,5 @@
 use Rattle.wiring.proofs.LayLawsLoad.{loads-at, load-vertex}
-use Rattle.wiring.proofs.LayLaws.{counted, vertex-whole}
+use Rattle.wiring.proofs.LayLaws.{counted}
 use Prim.Native.Nat.{_-_, _≤_}
 use native.Mathlib.Omega.{arith}
 use mathlib.Core.Path.{_≡_, refl}
@@ -15,26 +15,14 @@ Inv-loop s passed load₀ n v₀ load v = (n ≡ vertexCount s) × (v ≤ n) × 
 abbrev μ-loop : tie.MeasureT-loop
 μ-loop s passed load₀ n v₀ load v = n - v
 
-shared-slice-read-wide : tie.Need-shared-slice-read-wide Inv-loop μ-loop
-shared-slice-read-wide c = search needs
-
-wide-requires : tie.Need-wide-requires Inv-loop μ-loop
-wide-requires c κs = search needs
+vertex-count-requires : tie.Need-vertex-count-requires Inv-loop μ-loop
+vertex-count-requires c κs = search needs
 
 loop-holds : tie.Need-loop-holds Inv-loop μ-loop
 loop-holds c = search needs
 
-mul-be32 : tie.Need-mul-be32 Inv-loop μ-loop
-mul-be32 c = search needs
-
-add-be32 : tie.Need-add-be32 Inv-loop μ-loop
-add-be32 c = search needs
-
-add-be32-2 : tie.Need-add-be32-2 Inv-loop μ-loop
-add-be32-2 c = search needs
-
-be32-requires : tie.Need-be32-requires Inv-loop μ-loop
-be32-requires c κs = omega (arith, vertex-whole (counted (c .before .before .before .before .before .pre .0 .0) (c .before .loop .inv .0) refl) (c .before .loop .v) (omega arith))
+vertex-demand-requires : tie.Need-vertex-demand-requires Inv-loop μ-loop
+vertex-demand-requires c κs = c .before .before .before .before .pre .0 .0 .vertices (c .before .loop .v) (omega arith) .whole
 
 mul-owed : tie.Need-mul-owed Inv-loop μ-loop
 mul-owed c = search needs
@@ -60,13 +48,13 @@ loop-less c = search needs
 loop-again : tie.Need-loop-again Inv-loop μ-loop
 loop-again c =
     let i = c .before .before .before .before .loop .inv in
-    let p = c .before .before .before .before .before .before .before .before .pre in
-    (i .0, omega arith, load-vertex (counted (p .0 .0) (i .0) refl) (i .2) (p .0 .1) (c .before .before .before .loop-test .taken) (c .before .before .be32 .ensures .0) (c .owed .ensures))
+    let p = c .before .before .before .before .before .before .before .pre in
+    (i .0, omega arith, load-vertex (counted (p .0 .0) (i .0) refl) (i .2) (p .0 .1) (c .before .before .before .loop-test .taken) (c .before .before .vertex-demand .ensures .0) (c .owed .ensures))
 
 returns : tie.Need-returns Inv-loop μ-loop
 returns c =
     let i = c .before .loop .inv in
-    let e : c .before .loop .v ≡ vertexCount (c .before .before .before .before .before .args .s .now) = omega arith in
+    let e : c .before .loop .v ≡ vertexCount (c .before .before .before .before .args .s .now) = omega arith in
     loads-at (i .2) e
 
 pub load-vertices-spec : {M : Type 1} → statement M
@@ -75,13 +63,9 @@ load-vertices-spec =
     (tie.spec
     Inv-loop
     μ-loop
-    shared-slice-read-wide
-    wide-requires
+    vertex-count-requires
     loop-holds
-    mul-be32
-    add-be32
-    add-be32-2
-    be32-requires
+    vertex-demand-requires
     mul-owed
     element-copy-out-owed
     owed-requires

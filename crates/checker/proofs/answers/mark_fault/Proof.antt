@@ -20,4 +20,9 @@ returns-3 : tie.Need-returns-3
 returns-3 c = mark-between _ _ (search needs) (search needs)
 
 pub mark-fault-spec : {M : Type 1} → statement M
-mark-fault-spec = tie.close (tie.spec mark-bits-requires returns sub-if2 returns-2 returns-3)
+mark-fault-spec = tie.close (tie.spec
+    mark-bits-requires
+    returns
+    sub-if2
+    returns-2
+    returns-3)

@@ -1,7 +1,7 @@
 -- `checker::answers::mark_reads` marks each read that the path holds, one record after another.
 use native.Mathlib.Omega.{arith}
-use Rattle.forms.specs.GraphForm.{readCount}
 use Rattle.forms.specs.Bytes.{part}
+use Rattle.forms.specs.GraphForm.{readCount}
 use mathlib.Core.Path.{_≡_}
 use Prim.Native.Nat.{_-_}
 use Rattle.checker.proofs.AnswerReads.{ReadsLeft, reads-begin, reads-next, reads-turn, reads-end}

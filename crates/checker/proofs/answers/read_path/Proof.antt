@@ -1,7 +1,7 @@
 -- `checker::answers::read_path` judges one path's record and tallies it.
 use borrow.Author.Tests.{not-true, not-false}
 use mathlib.Core.Path.{sym, _∙_}
-use Rattle.checker.proofs.AnswerPaths.{record-refused, record-no-path, record-no-order, record-right, fault-head, room-for}
+use Rattle.checker.proofs.AnswerPaths.{record-refused, record-no-path, record-no-order, record-right, fault-head, room-for, head-room}
 use Rattle.checker.proofs.AnswerWalk.{walked-rises}
 use native.Mathlib.Omega.{arith}
 use borrow.Author.Needs.{needs}
@@ -24,13 +24,13 @@ path-vertices-at-requires : tie.Need-path-vertices-at-requires
 path-vertices-at-requires c κs = omega (arith, (c .before .before .before .path-head-fault .ensures .1 (c .before .before .if1 .left)))
 
 walk-path-requires : tie.Need-walk-path-requires
-walk-path-requires c κs = ((c .before .before .before .before .before .before .before .before .before .pre .0 .0, c .before .before .before .before .before .before .before .before .before .pre .0 .1, omega (arith, (c .before .before .before .before .before .before .path-head-fault .ensures .1 (c .before .before .before .before .before .if1 .left)), (c .before .before .before .path-length .ensures .0), (c .before .before .path-vertices-at .ensures)), omega (arith, (c .before .before .before .before .before .before .path-head-fault .ensures .1 (c .before .before .before .before .before .if1 .left)), (c .before .before .before .path-length .ensures .0), (c .before .before .path-vertices-at .ensures))), (omega (arith, (c .before .before .before .before .before .before .path-head-fault .ensures .1 (c .before .before .before .before .before .if1 .left)), (c .before .before .before .path-length .ensures .0), (c .before .before .path-vertices-at .ensures)), room-for (c .before .before .before .before .before .before .before .before .before .pre .1 .0) (omega (arith, (c .before .before .before .before .before .before .path-head-fault .ensures .1 (c .before .before .before .before .before .if1 .left)), (c .before .before .before .before .path-weight .ensures .0)))))
+walk-path-requires c κs = ((c .before .before .before .before .before .before .before .before .before .pre .0 .0, c .before .before .before .before .before .before .before .before .before .pre .0 .1, c .before .before .before .before .before .before .before .before .before .pre .0 .2, omega (arith, (c .before .before .before .before .before .before .path-head-fault .ensures .1 (c .before .before .before .before .before .if1 .left)), (c .before .before .before .path-length .ensures .0), (c .before .before .path-vertices-at .ensures)), omega (arith, head-room (c .before .before .before .before .before .before .path-head-fault .ensures .1 (c .before .before .before .before .before .if1 .left)), (c .before .before .before .path-length .ensures .0), (c .before .before .path-vertices-at .ensures))), (omega (arith, (c .before .before .before .before .before .before .path-head-fault .ensures .1 (c .before .before .before .before .before .if1 .left)), (c .before .before .before .path-length .ensures .0), (c .before .before .path-vertices-at .ensures)), room-for (c .before .before .before .before .before .before .before .before .before .pre .1 .0) (omega (arith, (c .before .before .before .before .before .before .path-head-fault .ensures .1 (c .before .before .before .before .before .if1 .left)), (c .before .before .before .before .path-weight .ensures .0)))))
 
 returns-2 : tie.Need-returns-2
 returns-2 c = record-no-path _ _ _ _ _ (c .before .before .before .before .before .before .before .before .before .path-head-fault .ensures .1 (c .before .before .before .before .before .before .before .before .if1 .left)) (sym (c .before .before .before .before .before .before .before .before .before .path-head-fault .ensures .0) ∙ c .before .before .before .before .before .before .before .before .if1 .left) (c .before .before .before .before .before .before .before .path-weight .ensures .0) (c .before .before .before .before .before .before .path-length .ensures .0) (c .before .before .before .before .before .path-vertices-at .ensures) (c .before .before .walk-path .ensures) (not-true _ (c .if2 .taken))
 
 comes-before-requires : tie.Need-comes-before-requires
-comes-before-requires c κs = (c .before .before .before .before .before .before .before .before .before .before .before .before .pre .0 .3, omega (arith, (c .before .before .before .before .before .before .before .before .before .path-head-fault .ensures .1 (c .before .before .before .before .before .before .before .before .if1 .left)), (c .before .before .before .before .before .before .path-length .ensures .0), (c .before .before .before .before .before .path-vertices-at .ensures)))
+comes-before-requires c κs = (c .before .before .before .before .before .before .before .before .before .before .before .before .pre .0 .4, omega (arith, (c .before .before .before .before .before .before .before .before .before .path-head-fault .ensures .1 (c .before .before .before .before .before .before .before .before .if1 .left)), (c .before .before .before .before .before .before .path-length .ensures .0), (c .before .before .before .before .before .path-vertices-at .ensures)))
 
 returns-3 : tie.Need-returns-3
 returns-3 c = record-no-order _ _ _ _ _ (c .before .before .before .before .before .before .before .before .before .before .before .path-head-fault .ensures .1 (c .before .before .before .before .before .before .before .before .before .before .if1 .left)) (sym (c .before .before .before .before .before .before .before .before .before .before .before .path-head-fault .ensures .0) ∙ c .before .before .before .before .before .before .before .before .before .before .if1 .left) (c .before .before .before .before .before .before .before .before .before .path-weight .ensures .0) (c .before .before .before .before .before .before .before .before .path-length .ensures .0) (c .before .before .before .before .before .before .before .path-vertices-at .ensures) (c .before .before .before .before .walk-path .ensures) (not-false _ (c .before .before .if2 .left)) (c .before .comes-before .ensures) (not-true _ (c .if3 .taken))

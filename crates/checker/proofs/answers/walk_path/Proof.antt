@@ -2,7 +2,7 @@
 use borrow.Author.Tests.{not-true, not-false}
 use mathlib.Core.Path.{sym, _∙_}
 use native.Mathlib.Omega.{arith}
-use Rattle.checker.proofs.AnswerWalk.{path-outside, path-no-start, path-room, path-walked}
+use Rattle.checker.proofs.AnswerWalk.{path-outside, path-no-start, path-room, path-walked, first-room}
 use borrow.Author.Needs.{needs}
 use Rattle.checker.proofs.answers.walk_path.Statement.{statement}
 use Rattle.checker.proofs.answers.walk_path.Tie as tie
@@ -17,13 +17,13 @@ vertex-count-requires : tie.Need-vertex-count-requires
 vertex-count-requires c κs = search needs
 
 returns : tie.Need-returns
-returns c = path-outside _ _ _ _ _ _ _ (c .before .before .before .before .before .before .pre .0 .2) (c .before .before .before .before .before .before .pre .1 .0) _ (c .before .before .wide .ensures .0) (search needs)
+returns c = path-outside _ _ _ _ _ _ _ (c .before .before .before .before .before .before .pre .0 .3) (c .before .before .before .before .before .before .pre .1 .0) _ (c .before .before .wide .ensures .0) (search needs)
 
 is-start-requires : tie.Need-is-start-requires
 is-start-requires c κs = search needs
 
 returns-2 : tie.Need-returns-2
-returns-2 c = path-no-start _ _ _ _ _ _ _ (c .before .before .before .before .before .before .before .before .pre .0 .2) (c .before .before .before .before .before .before .before .before .pre .1 .0) _ (c .before .before .before .before .wide .ensures .0) (sym (c .before .is-start .ensures) ∙ not-true _ (c .if2 .taken))
+returns-2 c = path-no-start _ _ _ _ _ _ _ (c .before .before .before .before .before .before .before .before .pre .0 .3) (c .before .before .before .before .before .before .before .before .pre .1 .0) _ (c .before .before .before .before .wide .ensures .0) (sym (c .before .is-start .ensures) ∙ not-true _ (c .if2 .taken))
 
 mul-vertex-totals : tie.Need-mul-vertex-totals
 mul-vertex-totals c = search needs
@@ -32,7 +32,7 @@ element-copy-out-vertex-totals : tie.Need-element-copy-out-vertex-totals
 element-copy-out-vertex-totals c = search needs
 
 add-vertex-totals : tie.Need-add-vertex-totals
-add-vertex-totals c = omega (arith, c .before .before .before .before .before .before .before .before .before .pre .1 .1 .vertices-low (c .before .before .before .before .before .wide .result) (omega (arith, (c .before .before .before .before .before .before .before .before .before .pre .0 .0 .arcs .header .few-vertices))), c .before .before .before .before .before .before .before .before .before .pre .1 .1 .low-weight)
+add-vertex-totals c = omega (arith, first-room (c .before .before .before .before .before .wide .result) (omega (arith, (c .before .before .before .before .before .before .before .before .before .pre .0 .0 .arcs .header .vertices-room))) (c .before .before .before .before .before .before .before .before .before .pre .1 .1))
 
 mul-vertex-totals-2 : tie.Need-mul-vertex-totals-2
 mul-vertex-totals-2 c = search needs
@@ -47,10 +47,10 @@ sub-walk-on : tie.Need-sub-walk-on
 sub-walk-on c = search needs
 
 walk-on-requires : tie.Need-walk-on-requires
-walk-on-requires c κs = ((c .before .before .before .before .before .before .before .before .before .before .before .pre .0 .0, c .before .before .before .before .before .before .before .before .before .before .before .pre .0 .1, search needs), (search needs, search needs, path-room _ (c .before .before .before .before .before .before .before .before .before .before .before .args .t .now) (c .before .before .before .before .before .before .before .before .before .before .before .args .b) (c .before .before .before .before .before .before .before .before .before .before .before .args .lb) _ _ _ (c .before .before .before .before .before .before .before .before .before .before .before .pre .0 .2) (c .before .before .before .before .before .before .before .before .before .before .before .pre .1 .0) _ (c .before .before .before .before .before .before .before .wide .ensures .0) (search needs) (sym (c .before .before .before .before .is-start .ensures) ∙ not-false _ (c .before .before .before .if2 .left)) (c .before .before .before .before .before .before .before .before .before .before .before .pre .0 .0 .arcs .header .few-vertices) (c .before .before .before .before .before .before .before .before .before .before .before .pre .1 .1)))
+walk-on-requires c κs = ((c .before .before .before .before .before .before .before .before .before .before .before .pre .0 .0, c .before .before .before .before .before .before .before .before .before .before .before .pre .0 .1, search needs, search needs), (search needs, search needs, path-room _ (c .before .before .before .before .before .before .before .before .before .before .before .args .t .now) (c .before .before .before .before .before .before .before .before .before .before .before .args .b) (c .before .before .before .before .before .before .before .before .before .before .before .args .lb) _ _ _ (c .before .before .before .before .before .before .before .before .before .before .before .pre .0 .3) (c .before .before .before .before .before .before .before .before .before .before .before .pre .1 .0) _ (c .before .before .before .before .before .before .before .wide .ensures .0) (search needs) (sym (c .before .before .before .before .is-start .ensures) ∙ not-false _ (c .before .before .before .if2 .left)) (c .before .before .before .before .before .before .before .before .before .before .before .pre .0 .0 .arcs .header .vertices-room) (c .before .before .before .before .before .before .before .before .before .before .before .pre .1 .1)))
 
 returns-3 : tie.Need-returns-3
-returns-3 c = path-walked _ _ _ _ _ _ _ (c .before .before .before .before .before .before .before .before .before .before .before .before .pre .0 .2) (c .before .before .before .before .before .before .before .before .before .before .before .before .pre .1 .0) _ (c .before .before .before .before .before .before .before .before .wide .ensures .0) (search needs) (sym (c .before .before .before .before .before .is-start .ensures) ∙ not-false _ (c .before .before .before .before .if2 .left)) (c .before .before .before .before .before .before .before .before .before .before .before .before .pre .0 .0 .arcs .header .few-vertices) _ _ _ _ (c .before .before .before .before .before .before .before .before .before .before .before .before .pre .1 .1 .vertices-long) (c .walk-on .ensures)
+returns-3 c = path-walked _ _ _ _ _ _ _ (c .before .before .before .before .before .before .before .before .before .before .before .before .pre .0 .3) (c .before .before .before .before .before .before .before .before .before .before .before .before .pre .1 .0) _ (c .before .before .before .before .before .before .before .before .wide .ensures .0) (search needs) (sym (c .before .before .before .before .before .is-start .ensures) ∙ not-false _ (c .before .before .before .before .if2 .left)) (c .before .before .before .before .before .before .before .before .before .before .before .before .pre .0 .0 .arcs .header .vertices-room) _ _ _ _ (c .before .before .before .before .before .before .before .before .before .before .before .before .pre .1 .1 .vertices-long) (c .walk-on .ensures)
 
 pub walk-path-spec : {M : Type 1} → statement M
 walk-path-spec =

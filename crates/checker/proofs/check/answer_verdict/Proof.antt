@@ -1,11 +1,6 @@
 -- `checker::check::answer_verdict` goes through header, marks and paths, the first refusal deciding.
 use mathlib.Core.Path.{sym, ap, _∙_}
-use native.Mathlib.Omega.{arith}
-use Prim.Native.Nat.{_*_}
 use Rattle.forms.specs.declared.Verdict.{Verdict}
-use Rattle.forms.specs.AnswerForm.{inMarkAt}
-use Rattle.forms.specs.AnswerFaults.{marksVerdict}
-use Rattle.forms.specs.GraphFaults.{nothingRefused}
 use Rattle.checker.specs.Check.{answerVerdict}
 use Rattle.checker.proofs.AnswerLaws.{header-then, marks-then}
 use Rattle.forms.proofs.ThenLaws.{then-refused, then-passed}
@@ -22,29 +17,26 @@ returns : tie.Need-returns
 unfolding answerVerdict
 returns c = then-refused _ (c .before .before .header-verdict .ensures) (search needs) ∙ sym (header-then _ _ _)
 
-vertex-count-requires : tie.Need-vertex-count-requires
-vertex-count-requires c κs = search needs
-
 marks-verdict-requires : tie.Need-marks-verdict-requires
-marks-verdict-requires c κs = omega (arith, header-read _ _ _ (ap (λ (v : Verdict). v .number) (sym (c .before .before .before .header-verdict .ensures)) ∙ c .before .if1 .left) .0 .long)
+marks-verdict-requires c κs = (search needs, header-read _ _ _ (ap (λ (v : Verdict). v .number) (sym (c .before .before .header-verdict .ensures)) ∙ c .if1 .left) .0 .long)
 
 returns-2 : tie.Need-returns-2
 unfolding answerVerdict
 returns-2 c =
-    let marks = c .before .before .marks-verdict .ensures ∙ ap (λ k. marksVerdict (c .before .before .before .before .before .before .before .before .before .args .t .now) (2 * k) (inMarkAt 0) nothingRefused) (c .before .before .before .vertex-count .ensures .0) in
-    then-passed (c .before .before .before .before .before .before .header-verdict .ensures) (search needs) (then-refused _ marks (search needs) ∙ sym (marks-then _ _ _ _)) ∙ sym (header-then _ _ _)
+    let marks = c .before .before .marks-verdict .ensures in
+    then-passed (c .before .before .before .before .before .header-verdict .ensures) (search needs) (then-refused _ marks (search needs) ∙ sym (marks-then _ _ _ _)) ∙ sym (header-then _ _ _)
 
 paths-verdict-requires : tie.Need-paths-verdict-requires
 paths-verdict-requires c κs =
-    let marks = c .before .before .marks-verdict .ensures ∙ ap (λ k. marksVerdict (c .before .before .before .before .before .before .before .before .before .args .t .now) (2 * k) (inMarkAt 0) nothingRefused) (c .before .before .before .vertex-count .ensures .0) in
-    let header = header-read _ _ _ (ap (λ (v : Verdict). v .number) (sym (c .before .before .before .before .before .before .header-verdict .ensures)) ∙ c .before .before .before .before .if1 .left) in
-    (c .before .before .before .before .before .before .before .before .before .pre, marks-stand _ _ (header .0 .long) (ap (λ (v : Verdict). v .number) (sym marks) ∙ c .if2 .left))
+    let marks = c .before .before .marks-verdict .ensures in
+    let header = header-read _ _ _ (ap (λ (v : Verdict). v .number) (sym (c .before .before .before .before .before .header-verdict .ensures)) ∙ c .before .before .before .if1 .left) in
+    (c .before .before .before .before .before .before .before .before .pre, marks-stand _ _ (header .0 .long) (ap (λ (v : Verdict). v .number) (sym marks) ∙ c .if2 .left))
 
 returns-3 : tie.Need-returns-3
 unfolding answerVerdict
 returns-3 c =
-    let marks = c .before .before .before .marks-verdict .ensures ∙ ap (λ k. marksVerdict (c .before .before .before .before .before .before .before .before .before .before .args .t .now) (2 * k) (inMarkAt 0) nothingRefused) (c .before .before .before .before .vertex-count .ensures .0) in
-    then-passed (c .before .before .before .before .before .before .before .header-verdict .ensures) (search needs) (then-passed marks (search needs) (c .paths-verdict .ensures) ∙ sym (marks-then _ _ _ _)) ∙ sym (header-then _ _ _)
+    let marks = c .before .before .before .marks-verdict .ensures in
+    then-passed (c .before .before .before .before .before .before .header-verdict .ensures) (search needs) (then-passed marks (search needs) (c .paths-verdict .ensures) ∙ sym (marks-then _ _ _ _)) ∙ sym (header-then _ _ _)
 
 pub answer-verdict-spec : {M : Type 1} → statement M
 answer-verdict-spec =
@@ -52,7 +44,6 @@ answer-verdict-spec =
     (tie.spec
     header-verdict-requires
     returns
-    vertex-count-requires
     marks-verdict-requires
     returns-2
     paths-verdict-requires

@@ -2,6 +2,7 @@
 use mathlib.Core.Path.{sym, ap, _∙_}
 use Rattle.forms.specs.declared.Verdict.{Verdict}
 use Rattle.checker.proofs.CertifyLawsCheck.{some-unmet, price-differs, slack-below, bound-differs, all-certified, none-below}
+use Rattle.forms.proofs.LayoutLaws.{header-inside}
 use borrow.Author.Needs.{needs}
 use Rattle.checker.proofs.check.certificate_verdict.Statement.{statement}
 use Rattle.checker.proofs.check.certificate_verdict.Tie as tie
@@ -13,7 +14,7 @@ returns : tie.Need-returns
 returns c = some-unmet _ _ _ _ _ _ (c .before .before .before .before .before .pre .1) (c .before .before .unmet-verdict .ensures) (search needs)
 
 stated-price-requires : tie.Need-stated-price-requires
-stated-price-requires c κs = search needs
+stated-price-requires c κs = header-inside (c .before .before .before .before .before .args .s .now) _ (c .before .before .before .before .before .pre .0 .3 .long)
 
 new-requires : tie.Need-new-requires
 new-requires c κs = search needs
@@ -28,7 +29,7 @@ returns-3 : tie.Need-returns-3
 returns-3 c = slack-below _ _ _ _ _ _ (c .before .before .before .before .before .before .before .before .before .before .pre .1) (c .before .before .before .before .before .before .before .unmet-verdict .ensures) (search needs) (c .before .before .before .if2 .left ∙ c .before .before .before .before .stated-price .ensures) (c .before .before .slacks-verdict .ensures) (search needs)
 
 bound-of-requires : tie.Need-bound-of-requires
-bound-of-requires c κs = (c .before .before .before .before .before .before .before .before .before .before .pre .0 .0, c .before .before .before .before .before .before .before .before .before .before .pre .0 .1, c .before .before .before .before .before .before .before .before .before .before .pre .0 .2, none-below _ _ (ap (λ (v : Verdict). v .number) (sym (c .before .before .slacks-verdict .ensures)) ∙ c .if3 .left))
+bound-of-requires c κs = (c .before .before .before .before .before .before .before .before .before .before .pre .0 .0, c .before .before .before .before .before .before .before .before .before .before .pre .0 .1, c .before .before .before .before .before .before .before .before .before .before .pre .0 .3, none-below _ _ (ap (λ (v : Verdict). v .number) (sym (c .before .before .slacks-verdict .ensures)) ∙ c .if3 .left))
 
 new-requires-2 : tie.Need-new-requires-2
 new-requires-2 c κs = search needs

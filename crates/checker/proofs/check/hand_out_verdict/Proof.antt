@@ -1,10 +1,10 @@
 -- `checker::check::hand_out_verdict` gives the check's refusal, and 23 after it.
 use mathlib.Core.Path.{sym, ap, _∙_}
-use native.Mathlib.Omega.{arith}
 use Rattle.forms.specs.declared.Verdict.{Verdict}
 use Rattle.forms.specs.GraphFaults.{then}
 use Rattle.checker.specs.Check.{handOutVerdict}
 use Rattle.forms.proofs.ThenLaws.{then-refused, then-passed}
+use Rattle.checker.proofs.AnswerLaws.{count-stands}
 use Rattle.checker.proofs.Accepted.{number-zero-accepted}
 use Rattle.checker.proofs.CertifyLawsHandOut.{no-such-path, such-path}
 use borrow.Author.Needs.{needs}
@@ -19,7 +19,7 @@ unfolding handOutVerdict then
 returns c = then-refused _ (c .before .before .check .ensures) (search needs)
 
 path-count-requires : tie.Need-path-count-requires
-path-count-requires c κs = omega (arith, number-zero-accepted _ _ (ap (λ (v : Verdict). v .number) (sym (c .before .before .check .ensures)) ∙ c .if1 .left) .header .long)
+path-count-requires c κs = count-stands (c .before .before .before .before .before .args .graph .now) _ (number-zero-accepted _ _ (ap (λ (v : Verdict). v .number) (sym (c .before .before .check .ensures)) ∙ c .if1 .left) .header .long)
 
 new-requires : tie.Need-new-requires
 new-requires c κs = search needs

@@ -6,10 +6,10 @@ use Rattle.checker.proofs.check.path_at.Statement.{statement}
 use Rattle.checker.proofs.check.path_at.Tie as tie
 
 abbrev Inv-loop : tie.InvT-loop
-Inv-loop t from k at₀ left₀ at left = Passing t k from at left
+Inv-loop s t from k at₀ left₀ at left = Passing s t k from at left
 
 abbrev μ-loop : tie.MeasureT-loop
-μ-loop t from k at₀ left₀ at left = left
+μ-loop s t from k at₀ left₀ at left = left
 
 loop-holds : tie.Need-loop-holds Inv-loop μ-loop
 loop-holds c = pass-begin (search needs)

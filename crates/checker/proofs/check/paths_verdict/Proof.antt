@@ -10,8 +10,11 @@ use Rattle.checker.proofs.check.paths_verdict.Tie as tie
 first-arcs-requires : tie.Need-first-arcs-requires
 first-arcs-requires c κs = search needs
 
+roles-requires : tie.Need-roles-requires
+roles-requires c κs = search needs
+
 read-paths-requires : tie.Need-read-paths-requires
-read-paths-requires c κs = ((c .before .before .before .before .before .before .before .pre .0, c .before .before .before .before .first-arcs .ensures, c .before .before .before .before .before .before .before .pre .1 .long), nothing-tallied)
+read-paths-requires c κs = ((c .before .before .before .before .before .before .before .before .before .pre .0, c .before .before .before .before .before .before .first-arcs .ensures, c .before .before .before .before .before .roles .ensures, c .before .before .before .before .before .before .before .before .before .pre .1 .long), nothing-tallied)
 
 new-requires : tie.Need-new-requires
 new-requires c κs = search needs
@@ -20,16 +23,17 @@ returns : tie.Need-returns
 returns c = c .new .ensures ∙ (then-refused _ (c .before .before .before .read-paths .ensures .verdict) (c .before .if1 .taken) ∙ sym (paths-then _ _ _ _ _ _ _))
 
 certificate-verdict-requires : tie.Need-certificate-verdict-requires
-certificate-verdict-requires c κs = ((c .before .before .before .before .before .before .before .before .before .before .before .before .before .before .pre .0, c .before .before .before .before .before .before .before .before .before .before .before .first-arcs .ensures, c .before .before .before .before .before .before .before .before .before .before .before .before .before .before .pre .1), c .before .before .before .before .before .before .read-paths .ensures .tallied (c .before .before .before .before .if1 .left))
+certificate-verdict-requires c κs = ((c .before .before .before .before .before .before .before .before .before .before .before .before .before .before .before .before .before .pre .0, c .before .before .before .before .before .before .before .before .before .before .before .before .before .before .first-arcs .ensures, c .before .before .before .before .before .before .before .before .before .before .before .before .before .roles .ensures, c .before .before .before .before .before .before .before .before .before .before .before .before .before .before .before .before .before .pre .1), c .before .before .before .before .before .before .before .read-paths .ensures .tallied (c .before .before .before .before .before .if1 .left))
 
 returns-2 : tie.Need-returns-2
-returns-2 c = then-passed (c .before .before .before .before .before .before .before .read-paths .ensures .verdict) (c .before .before .before .before .before .if1 .left) (c .certificate-verdict .ensures) ∙ sym (paths-then _ _ _ _ _ _ _)
+returns-2 c = then-passed (c .before .before .before .before .before .before .before .before .read-paths .ensures .verdict) (c .before .before .before .before .before .before .if1 .left) (c .certificate-verdict .ensures) ∙ sym (paths-then _ _ _ _ _ _ _)
 
 pub paths-verdict-spec : {M : Type 1} → statement M
 paths-verdict-spec =
     tie.close
     (tie.spec
     first-arcs-requires
+    roles-requires
     read-paths-requires
     new-requires
     returns

@@ -1,5 +1,7 @@
 -- `checker::reader::arc_fault` gives the fault of specs/GraphFaults, a law for each way out.
-use Rattle.checker.proofs.RecordLaws.{arc-short, arc-cost, arc-demand, arc-falls, arc-outside, arc-first, arc-repeats, arc-right}
+use Rattle.checker.proofs.RecordLaws.{arc-place, arc-short, arc-cost, arc-demand, arc-falls, arc-outside, arc-first, arc-repeats, arc-right}
+use Prim.Native.Nat.{_+_}
+use native.Mathlib.Omega.{arith}
 use borrow.Author.Needs.{needs}
 use Rattle.checker.proofs.reader.arc_fault.Statement.{statement}
 use Rattle.checker.proofs.reader.arc_fault.Tie as tie
@@ -8,7 +10,7 @@ add-arc-at : tie.Need-add-arc-at
 add-arc-at c = search needs
 
 arc-at-requires : tie.Need-arc-at-requires
-arc-at-requires c κs = search needs
+arc-at-requires c κs = (search needs, omega (arith, arc-place (c .before .args .s .now) (c .before .args .a + 1) (search needs) (search needs)))
 
 returns : tie.Need-returns
 returns c = arc-short _ _ (search needs)

@@ -1,7 +1,9 @@
 -- `checker::reader::arcs_then_reads` meets its contract: where no arc is refused the arcs are right, and the table is made for the reads.
+use native.Mathlib.Omega.{arith}
 use mathlib.Core.Path.{sym, ap, _∙_}
 use Rattle.forms.specs.declared.Verdict.{Verdict}
 use Rattle.forms.proofs.RightLaws.{arcs-hold}
+use Rattle.checker.proofs.RecordLaws.{arc-place}
 use Rattle.forms.proofs.ThenLaws.{then-refused, then-passed, counted, reads-counted}
 use borrow.Author.Needs.{needs}
 use Rattle.checker.proofs.reader.arcs_then_reads.Statement.{statement}
@@ -26,7 +28,7 @@ first-read-at-requires : tie.Need-first-read-at-requires
 first-read-at-requires c κs = search needs
 
 reads-verdict-requires : tie.Need-reads-verdict-requires
-reads-verdict-requires c κs = search needs
+reads-verdict-requires c κs = (search needs, omega (arith, c .first-read-at .ensures, arc-place _ _ (c .before .before .before .before .before .before .before .before .before .pre .0 .vertices-room) (c .before .before .before .before .before .before .before .before .before .pre .0 .arcs-room)))
 
 returns-2 : tie.Need-returns-2
 returns-2 c = then-passed (counted _ _ (c .before .before .before .before .before .before .before .arcs-verdict .ensures) (c .before .before .before .before .before .before .before .before .arc-count .ensures .0)) (search needs) (reads-counted _ (c .reads-verdict .ensures) (c .before .before .read-count .ensures .0) (c .before .first-read-at .ensures))

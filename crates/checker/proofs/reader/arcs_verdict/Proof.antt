@@ -3,19 +3,22 @@ use borrow.Author.Needs.{needs}
 use Prim.Native.Nat.{_-_, _≤_}
 use mathlib.Core.Path.{_≡_, _∙_}
 use Rattle.forms.proofs.Scan.{scan-begins, scan-turns, scan-stops, scan-ends}
-use Rattle.forms.specs.GraphForm.{arcAt}
 use Rattle.forms.specs.GraphFaults.{firstFault, arcFault}
+use Rattle.forms.specs.GraphForm.{firstArcAt, arcAt}
 use Rattle.checker.proofs.reader.arcs_verdict.Statement.{statement}
 use Rattle.checker.proofs.reader.arcs_verdict.Tie as tie
 
 abbrev Inv-loop : tie.InvT-loop
-Inv-loop s n count a₀ a = (a ≤ count) × (firstFault (λ a. arcFault s (arcAt s a)) (arcAt s) count 0 ≡ firstFault (λ a. arcFault s (arcAt s a)) (arcAt s) (count - a) a)
+Inv-loop s n count base a₀ a = (base ≡ firstArcAt s) × (a ≤ count) × (firstFault (λ a. arcFault s (arcAt s a)) (arcAt s) count 0 ≡ firstFault (λ a. arcFault s (arcAt s a)) (arcAt s) (count - a) a)
 
 abbrev μ-loop : tie.MeasureT-loop
-μ-loop s n count a₀ a = count - a
+μ-loop s n count base a₀ a = count - a
+
+first-arc-at-requires : tie.Need-first-arc-at-requires Inv-loop μ-loop
+first-arc-at-requires c κs = search needs
 
 loop-holds : tie.Need-loop-holds Inv-loop μ-loop
-loop-holds c = (search needs, scan-begins _ _ _)
+loop-holds c = (search needs, search needs, scan-begins _ _ _)
 
 arc-fault-requires : tie.Need-arc-fault-requires Inv-loop μ-loop
 arc-fault-requires c κs = search needs
@@ -36,7 +39,7 @@ loop-less : tie.Need-loop-less Inv-loop μ-loop
 loop-less c = search needs
 
 loop-again : tie.Need-loop-again Inv-loop μ-loop
-loop-again c = (search needs, scan-turns _ _ _ _ _ (search needs) (search needs) (c .before .arc-fault .ensures) (search needs))
+loop-again c = (search needs, search needs, scan-turns _ _ _ _ _ (search needs) (search needs) (c .before .arc-fault .ensures) (search needs))
 
 new-requires-2 : tie.Need-new-requires-2 Inv-loop μ-loop
 new-requires-2 c κs = search needs
@@ -50,6 +53,7 @@ arcs-verdict-spec =
     (tie.spec
     Inv-loop
     μ-loop
+    first-arc-at-requires
     loop-holds
     arc-fault-requires
     arc-at-requires

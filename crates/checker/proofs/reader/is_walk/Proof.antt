@@ -5,11 +5,11 @@ use native.Mathlib.Omega.{arith}
 use mathlib.Core.Path.{_≡_, sym, _∙_}
 use lib.ListN.{length}
 use borrow.Author.Tests.{not-true, not-false}
+use Rattle.forms.specs.ArcTable.{ArcTable}
 use Rattle.forms.specs.Bytes.{part}
+use Rattle.forms.specs.GraphFaults.{walks}
 use Rattle.forms.specs.GraphForm.{vertexCount}
 use Rattle.forms.specs.GraphOf.{arcsOf}
-use Rattle.forms.specs.GraphFaults.{walks}
-use Rattle.forms.specs.ArcTable.{ArcTable}
 use Rattle.forms.proofs.WalkLaws.{walksFrom, walk-outside, walk-begins, walk-turns, walk-stops, walk-ends, goes-inside}
 use Rattle.checker.proofs.reader.is_walk.Statement.{statement}
 use Rattle.checker.proofs.reader.is_walk.Tie as tie

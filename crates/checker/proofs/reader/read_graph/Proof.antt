@@ -20,7 +20,7 @@ vertex-count-requires : tie.Need-vertex-count-requires
 vertex-count-requires c κs = header-holds _ (ap (λ (v : Verdict). v .number) (sym (c .before .before .header-verdict .ensures)) ∙ c .if1 .left) .long
 
 vertices-verdict-requires : tie.Need-vertices-verdict-requires
-vertices-verdict-requires c κs = omega (arith, header-holds _ (ap (λ (v : Verdict). v .number) (sym (c .before .before .before .header-verdict .ensures)) ∙ c .before .if1 .left) .few-vertices)
+vertices-verdict-requires c κs = omega (arith, header-holds _ (ap (λ (v : Verdict). v .number) (sym (c .before .before .before .header-verdict .ensures)) ∙ c .before .if1 .left) .vertices-room)
 
 returns-2 : tie.Need-returns-2
 unfolding graphVerdict

@@ -4,17 +4,17 @@ use Rattle.checker.proofs.RecordLaws.{vertex-short, vertex-flag, vertex
 use Rattle.checker.proofs.reader.vertex_fault.Statement.{statement}
 use Rattle.checker.proofs.reader.vertex_fault.Tie as tie
 
-add-vertex-at : tie.Need-add-vertex-at
-add-vertex-at c = search needs
-
-vertex-at-requires : tie.Need-vertex-at-requires
-vertex-at-requires c κs = search needs
+vertex-end-requires : tie.Need-vertex-end-requires
+vertex-end-requires c κs = search needs
 
 returns : tie.Need-returns
 returns c = vertex-short _ _ (search needs)
 
 vertex-flags-requires : tie.Need-vertex-flags-requires
 vertex-flags-requires c κs = search needs
+
+max-flag-requires : tie.Need-max-flag-requires
+max-flag-requires c κs = search needs
 
 returns-2 : tie.Need-returns-2
 returns-2 c = vertex-flag _ _ (search needs) (search needs)
@@ -32,10 +32,10 @@ pub vertex-fault-spec : {M : Type 1} → statement M
 vertex-fault-spec =
     tie.close
     (tie.spec
-    add-vertex-at
-    vertex-at-requires
+    vertex-end-requires
     returns
     vertex-flags-requires
+    max-flag-requires
     returns-2
     vertex-demand-requires
     returns-3

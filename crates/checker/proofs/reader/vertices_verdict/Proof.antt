@@ -3,8 +3,9 @@ use borrow.Author.Needs.{needs}
 use Prim.Native.Nat.{_-_, _≤_}
 use mathlib.Core.Path.{_≡_, _∙_}
 use Rattle.forms.proofs.Scan.{scan-begins, scan-turns, scan-stops, scan-ends}
-use Rattle.forms.specs.GraphForm.{vertexAt}
+use Rattle.forms.proofs.LayoutLaws.{vertex-fits}
 use Rattle.forms.specs.GraphFaults.{firstFault, vertexFault}
+use Rattle.forms.specs.GraphForm.{vertexAt}
 use Rattle.checker.proofs.reader.vertices_verdict.Statement.{statement}
 use Rattle.checker.proofs.reader.vertices_verdict.Tie as tie
 
@@ -21,7 +22,7 @@ vertex-fault-requires : tie.Need-vertex-fault-requires Inv-loop μ-loop
 vertex-fault-requires c κs = search needs
 
 vertex-at-requires : tie.Need-vertex-at-requires Inv-loop μ-loop
-vertex-at-requires c κs = search needs
+vertex-at-requires c κs = vertex-fits _ _ (search needs)
 
 new-requires : tie.Need-new-requires Inv-loop μ-loop
 new-requires c κs = search needs

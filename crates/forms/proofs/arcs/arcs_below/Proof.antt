@@ -8,10 +8,10 @@ use Rattle.forms.proofs.arcs.arcs_below.Statement.{statement}
 use Rattle.forms.proofs.arcs.arcs_below.Tie as tie
 
 abbrev Inv-loop : tie.InvT-loop
-Inv-loop s n count u from a₀ a = a ≤ tailsBelow (arcsOf s) u
+Inv-loop s base count u from a₀ a = a ≤ tailsBelow (arcsOf s) u
 
 abbrev μ-loop : tie.MeasureT-loop
-μ-loop s n count u from a₀ a = count - a
+μ-loop s base count u from a₀ a = count - a
 
 loop-holds : tie.Need-loop-holds Inv-loop μ-loop
 loop-holds c = search needs

@@ -3,8 +3,8 @@ use borrow.Author.Needs.{needs}
 use Prim.Native.Nat.{_≤_, _<_, _-_, _+_}
 use mathlib.Core.Path.{_≡_, sym, _∙_}
 use lib.ListN.{getD}
-use Rattle.forms.specs.Limits.{maxVertices}
-use Rattle.forms.specs.GraphForm.{vertexCount, arcCount}
+use Rattle.forms.specs.Limits.{roomVertices}
+use Rattle.forms.specs.GraphForm.{firstArcAt, arcCount}
 use Rattle.forms.specs.GraphOf.{arcsOf}
 use Rattle.forms.specs.ArcTable.{ArcTable, arcNumber}
 use Rattle.forms.proofs.ArcLaws.{foundFrom, find-inside, find-begins, find-turns, find-stops, find-ends}
@@ -12,14 +12,14 @@ use Rattle.forms.proofs.arcs.find_arc.Statement.{statement}
 use Rattle.forms.proofs.arcs.find_arc.Tie as tie
 
 abbrev Inv-loop : tie.InvT-loop
-Inv-loop s first u v n end a₀ a =
-    ArcTable s first × (u < maxVertices) × (n ≡ vertexCount s) × (end ≡ getD first (u + 1) 0) × (getD first u 0 ≤ a) × ((a ≤ arcCount s) × (arcNumber (arcsOf s) u v ≡ foundFrom s u v a))
+Inv-loop s first u v base end a₀ a =
+    ArcTable s first × (u < roomVertices) × (base ≡ firstArcAt s) × (end ≡ getD first (u + 1) 0) × (getD first u 0 ≤ a) × ((a ≤ arcCount s) × (arcNumber (arcsOf s) u v ≡ foundFrom s u v a))
 
 abbrev μ-loop : tie.MeasureT-loop
-μ-loop s first u v n end a₀ a = end - a
+μ-loop s first u v base end a₀ a = end - a
 
-vertex-count-requires : tie.Need-vertex-count-requires Inv-loop μ-loop
-vertex-count-requires c κs = search needs
+first-arc-at-requires : tie.Need-first-arc-at-requires Inv-loop μ-loop
+first-arc-at-requires c κs = search needs
 
 add-wide16 : tie.Need-add-wide16 Inv-loop μ-loop
 add-wide16 c = search needs
@@ -69,7 +69,7 @@ find-arc-spec =
     (tie.spec
     Inv-loop
     μ-loop
-    vertex-count-requires
+    first-arc-at-requires
     add-wide16
     mul-wide16
     element-copy-out-wide16

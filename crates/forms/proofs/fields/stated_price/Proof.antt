@@ -3,11 +3,13 @@ use Rattle.forms.specs.Bytes.{be64}
 use mathlib.Core.Path.{ap₂}
 use Prim.Native.Nat.{_+_, _*_}
 use borrow.Author.Needs.{needs}
+use native.Mathlib.Omega.{arith}
+use Rattle.forms.proofs.LayoutLaws.{price-inside}
 use Rattle.forms.proofs.fields.stated_price.Statement.{statement}
 use Rattle.forms.proofs.fields.stated_price.Tie as tie
 
 be32-requires : tie.Need-be32-requires
-be32-requires c κs = search needs
+be32-requires c κs = omega (arith, price-inside _ _ (c .before .before .pre))
 
 mul-result : tie.Need-mul-result
 mul-result c = search needs
@@ -16,7 +18,7 @@ add-be32 : tie.Need-add-be32
 add-be32 c = search needs
 
 be32-requires-2 : tie.Need-be32-requires-2
-be32-requires-2 c κs = search needs
+be32-requires-2 c κs = omega (arith, price-inside _ _ (c .before .before .before .pre))
 
 add-result : tie.Need-add-result
 add-result c = search needs

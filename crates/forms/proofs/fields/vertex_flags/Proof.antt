@@ -1,5 +1,7 @@
 -- `forms::fields::vertex_flags` reads the flag byte at the place of the record.
 use borrow.Author.Needs.{needs}
+use native.Mathlib.Omega.{arith}
+use Rattle.forms.proofs.LayoutLaws.{vertex-inside}
 use Rattle.forms.proofs.fields.vertex_flags.Statement.{statement}
 use Rattle.forms.proofs.fields.vertex_flags.Tie as tie
 
@@ -7,7 +9,7 @@ vertex-at-requires : tie.Need-vertex-at-requires
 vertex-at-requires c κs = search needs
 
 shared-slice-read-wide : tie.Need-shared-slice-read-wide
-shared-slice-read-wide c = search needs
+shared-slice-read-wide c = omega (arith, vertex-inside _ _ _ _ (c .before .vertex-at .ensures) (c .before .before .before .pre))
 
 wide-requires : tie.Need-wide-requires
 wide-requires c κs = search needs
