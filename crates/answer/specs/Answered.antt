@@ -35,4 +35,4 @@ pub record AnsweredAlike (s out′ out″ err′ err″ : List ℕ) (r r′ : Wr
   pub same-line : (err′ ≡ err″) × (r .line ≡ r′ .line)
   pub same-refused : inputVerdict s .number ≢ 0 → (out′ ≡ out″) × (r .form ≡ r′ .form)
   pub both-accepted : inputVerdict s .number ≡ 0 → (checkVerdict s (take (r .form) out′) ≡ nothingRefused) × (checkVerdict s (take (r′ .form) out″) ≡ nothingRefused)
-  pub same-price : inputVerdict s .number ≡ 0 → statedPrice (take (r .form) out′) ≡ statedPrice (take (r′ .form) out″)
+  pub same-price : inputVerdict s .number ≡ 0 → statedPrice s (take (r .form) out′) ≡ statedPrice s (take (r′ .form) out″)

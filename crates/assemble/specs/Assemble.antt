@@ -34,4 +34,4 @@ pub record ListsAccepted (s text : List ℕ) : Type 0 where
 pub record AssembledAlike (s after after′ : List ℕ) (written written′ : ℕ) : Type 0 where
   pub same-refused : inputVerdict s .number ≢ 0 → (after ≡ after′) × (written ≡ written′)
   pub same-price : inputVerdict s .number ≡ 0 →
-      (a : ListsAccepted s (take written after)) × (b : ListsAccepted s (take written′ after′)) × (statedPrice (a .answer) ≡ statedPrice (b .answer))
+      (a : ListsAccepted s (take written after)) × (b : ListsAccepted s (take written′ after′)) × (statedPrice s (a .answer) ≡ statedPrice s (b .answer))

@@ -32,7 +32,7 @@ use Rattle.mathematics.proofs.Network.{slack}
 use Rattle.mathematics.proofs.Links.{Link, opening, closing, inside, across, inNode, outNode, linkFrom, linkTo, AtEnds}
 use Rattle.mathematics.proofs.Wired.{Node, node-cases, linkCost, edgeOf}
 use Rattle.mathematics.proofs.Marked.{marksOf, side-among, Spread, open-slack, close-slack, inside-slack, across-slack, slacks-hold}
-use Rattle.forms.specs.Limits.{maxPaths, maxWeight}
+use Rattle.forms.specs.Layout.{maxPaths, maxWeight}
 use Rattle.forms.specs.Bytes.{tabulate}
 use Rattle.forms.specs.GraphForm.{vertexCount, arcCount, openingPrice, arcAt, arcTail, arcHead, arcCost, vertexDemand, arcDemand}
 use Rattle.forms.specs.GraphOf.{vertexOf, arcOf, graphOf, arcItem}
@@ -41,6 +41,7 @@ use Rattle.forms.specs.GraphFaults.{nothingRefused, graphVerdict}
 use Rattle.forms.specs.AnswerFaults.{listBefore}
 use Rattle.checker.specs.Check.{checkVerdict}
 use Rattle.checker.specs.Encode.{encodeAnswer}
+use Rattle.forms.proofs.LayoutLaws.{path-limit}
 use Rattle.forms.proofs.GraphFacts.{graph-well-formed, graph-costs-hold, graph-within}
 use Rattle.checker.proofs.GraphReads.{number-zero-iff-reads}
 use Rattle.forms.proofs.ArcNumbers.{arc-among, arc-number}
@@ -103,8 +104,11 @@ asks-sum s f w hv ha =
     (arcs-sum s f w (arcCount s) 0 (λ a l b. ha a (omega arith))) ∙
     (+ℤ-idl _ ∙ ap pos (sum-same (arcCount s) (λ j. w (0 + j)) w (λ j l. ap w (let e : 0 + j ≡ j = omega arith in e)))))
 
-slots-few : (s : List ℕ) → Reads s → allSlots s ≤ maxPaths
-slots-few s right = let h = right .arcs .header in omega (arith, h .few-vertices, h .few-arcs, prepared-fewer (graphOf s .reads), graph-within s right .few-reads)
+-- "464 (64+256+64+64+16)": an answer may have as many paths as the graph has edges
+pub slots-few : (s : List ℕ) → Reads s → allSlots s ≤ maxPaths s
+slots-few s right =
+    let h = right .arcs .header in
+    omega (arith, h .few-vertices, h .few-arcs, prepared-fewer (graphOf s .reads), graph-within s right .few-reads, path-limit s)
 
 module _ (s : List ℕ) (right : Reads s) (mark added full : List ℕ) (S : Settled s mark added full) where
   abbrev G : Graph ℤ
@@ -396,7 +400,7 @@ module _ (s : List ℕ) (right : Reads s) (mark added full : List ℕ) (S : Sett
 -- Where marks and loads are settled and the paths W carry the loads, of which no more copies open than an answer may hold, the answer form of W at the price
 -- of the loads, with the final marks, is accepted.
 pub certificate-accepted : (s : List ℕ) → graphVerdict s .number ≡ 0 → (mark added full : List ℕ) → Settled s mark added full → (W : List Weighted) → Peeled s full W →
-    copiesOf s full ≤ maxWeight → checkVerdict s (encodeAnswer (vertexCount s) (priceFrom s full) (finalMarks s mark) W) ≡ nothingRefused
+    copiesOf s full ≤ maxWeight s → checkVerdict s (encodeAnswer s (priceFrom s full) (finalMarks s mark) W) ≡ nothingRefused
 certificate-accepted s reads mark added full S W taken few =
     let right = number-zero-iff-reads s .0 reads in
     shown-form-accepted s right W (covers s right mark added full S W taken) reads (omega (arith, taken .few, slots-few s right))

@@ -1,10 +1,12 @@
 -- Refusal 8: the builder gives it exactly where no cover exists, and its place is the first item that asks for something and lies on no path.
 use Prim.Native.Nat.{ℕ, zero, suc, _+_, _-_, _≤_, _<_}
+use native.Mathlib.Nat.{le-refl}
 use native.Mathlib.Omega.{arith}
 use mathlib.Core.Path.{_≡_, refl, sym, ap, subst, _∙_}
 use mathlib.Core.List.{List, [], _∷_, map}
 use mathlib.Core.Bool.{Bool, true, false, cond}
 use mathlib.Core.Logic.{_⊎_, inl, inr, ⊎-elim, _↔_}
+use borrow.Author.Tests.{le-ltb}
 use lib.Dec.{T, ltb}
 use lib.IntN.{ℤ}
 use lib.ListN.{length, getD, length-append, length-map}
@@ -15,6 +17,7 @@ use Rattle.mathematics.specs.Reach.{every, itemList, askLies, readLies, coverab
 use Rattle.mathematics.proofs.Basics.{and-l, and-r, and-in, at-all}
 use Rattle.mathematics.proofs.Existence.{cover-exists, cover-shows-coverable, coverable-decided, asks-linked, ask-lies, read-lies}
 use Rattle.forms.specs.declared.Verdict.{Verdict}
+use Rattle.forms.specs.GraphOf.{graphOf}
 use Rattle.forms.specs.GraphFaults.{refusal, nothingRefused, then}
 use Rattle.forms.specs.BuildFaults.{roomAsked, noAsk, asksLieVerdict, readsLieVerdict, coverVerdict}
 use Rattle.reach.specs.Reached.{lieVerdict}
@@ -70,7 +73,10 @@ unfolding readsLieVerdict Outcome
 reads-outcome G k [] after = inl (tt, refl)
 reads-outcome G k (r ∷ rs) after = outcome-next (readLies G) [] r rs k after _ (reads-outcome G (suc k) rs after)
 
-module _ (G : Graph ℤ) (wf : WellFormed G) (room : ℕ) where
+module _ (s : List ℕ) (wf : WellFormed (graphOf s)) (room : ℕ) where
+  abbrev G : Graph ℤ
+  G = graphOf s
+
   asks-count : length (asks G) ≡ length (G .vertices) + length (G .arcs)
   asks-count =
       length-append (vertexAsks 0 (G .vertices)) (map arcAsk (G .arcs)) ∙
@@ -127,18 +133,18 @@ module _ (G : Graph ℤ) (wf : WellFormed G) (room : ℕ) where
   -- what the verdict is: all lie, and only the room is looked at; or 8 with the first item that lacks
   Answered : Verdict → Type 0
   Answered given =
-      (T (coverable-test G) × (given ≡ cond (ltb room roomAsked) (refusal 9 0) nothingRefused)) ⊎ ((p : ℕ) × FirstLacking G p × (given ≡ refusal 8 p))
+      (T (coverable-test G) × (given ≡ cond (ltb room (roomAsked s)) (refusal 9 0) nothingRefused)) ⊎ ((p : ℕ) × FirstLacking G p × (given ≡ refusal 8 p))
 
-  answered : Answered (coverVerdict G room)
+  answered : Answered (coverVerdict s room)
   unfolding coverVerdict Answered Outcome coverable-test
   answered = by (asks-outcome G 0 (asks G) _) (reads-outcome G (length (G .vertices) + length (G .arcs)) (G .reads) _)
     where
       after : Verdict
-      after = cond (ltb room roomAsked) (refusal 9 0) nothingRefused
+      after = cond (ltb room (roomAsked s)) (refusal 9 0) nothingRefused
 
-      by : Outcome (askLies G) noAsk (asks G) 0 (readsLieVerdict G (length (G .vertices) + length (G .arcs)) (G .reads) after) (coverVerdict G room) →
+      by : Outcome (askLies G) noAsk (asks G) 0 (readsLieVerdict G (length (G .vertices) + length (G .arcs)) (G .reads) after) (coverVerdict s room) →
           Outcome (readLies G) [] (G .reads) (length (G .vertices) + length (G .arcs)) after
-          (readsLieVerdict G (length (G .vertices) + length (G .arcs)) (G .reads) after) → Answered (coverVerdict G room)
+          (readsLieVerdict G (length (G .vertices) + length (G .arcs)) (G .reads) after) → Answered (coverVerdict s room)
       by (inr (p, n, e)) r = inr (p, item-first p n, e ∙ ap (refusal 8) (omega arith))
       by (inl (a, e)) (inr (p, n, g)) = inr (length (asks G) + p, read-first p a n, e ∙ g ∙ ap (refusal 8) (omega (arith, asks-count)))
       by (inl (a, e)) (inl (b, g)) = inl (and-in (every (askLies G) (asks G)) (every (readLies G) (G .reads)) a b, e ∙ g)
@@ -155,38 +161,38 @@ module _ (G : Graph ℤ) (wf : WellFormed G) (room : ℕ) where
       }
 
   -- Document 01, number 8, "Given exactly when": no cover exists. "A cover exists exactly when each vertex and arc of positive demand, and each read, lies on some path".
-  pub eight-iff-no-cover : (coverVerdict G room .number ≡ 8) ↔ ((W : List Weighted) → IsCover G W → ⊥)
+  pub eight-iff-no-cover : (coverVerdict s room .number ≡ 8) ↔ ((W : List Weighted) → IsCover (graphOf s) W → ⊥)
   unfolding Answered
   eight-iff-no-cover = (refuses answered, gives answered)
     where
-      refuses : Answered (coverVerdict G room) → coverVerdict G room .number ≡ 8 → (W : List Weighted) → IsCover G W → ⊥
-      refuses (inl (t, e)) eight W c = not-eight (ltb room roomAsked) (sym (ap (λ (v : Verdict). v .number) e) ∙ eight)
+      refuses : Answered (coverVerdict s room) → coverVerdict s room .number ≡ 8 → (W : List Weighted) → IsCover G W → ⊥
+      refuses (inl (t, e)) eight W c = not-eight (ltb room (roomAsked s)) (sym (ap (λ (v : Verdict). v .number) e) ∙ eight)
       refuses (inr (p, n, e)) eight W c = n .lacks (coverable-lies (cover-shows-coverable G W c) p)
 
-      gives : Answered (coverVerdict G room) → ((W : List Weighted) → IsCover G W → ⊥) → coverVerdict G room .number ≡ 8
+      gives : Answered (coverVerdict s room) → ((W : List Weighted) → IsCover G W → ⊥) → coverVerdict s room .number ≡ 8
       gives (inl (t, e)) none = let w = cover-exists G (coverable-decided G wf .0 t) in absurd (none (w .0) (w .1))
       gives (inr (p, n, e)) none = ap (λ (v : Verdict). v .number) e
 
   -- Document 01, number 8, its place: "first item that asks for something (positive demand, or a read) and lies on no start-to-end path".
-  pub eight-at-first-lacking : coverVerdict G room .number ≡ 8 → FirstLacking G (coverVerdict G room .place)
+  pub eight-at-first-lacking : coverVerdict s room .number ≡ 8 → FirstLacking (graphOf s) (coverVerdict s room .place)
   unfolding Answered
   eight-at-first-lacking = by answered
     where
-      by : Answered (coverVerdict G room) → coverVerdict G room .number ≡ 8 → FirstLacking G (coverVerdict G room .place)
-      by (inl (t, e)) eight = absurd (not-eight (ltb room roomAsked) (sym (ap (λ (v : Verdict). v .number) e) ∙ eight))
+      by : Answered (coverVerdict s room) → coverVerdict s room .number ≡ 8 → FirstLacking G (coverVerdict s room .place)
+      by (inl (t, e)) eight = absurd (not-eight (ltb room (roomAsked s)) (sym (ap (λ (v : Verdict). v .number) e) ∙ eight))
       by (inr (p, n, e)) eight = subst (FirstLacking G) (sym (ap (λ (v : Verdict). v .place) e)) n
 
   -- Where a cover exists only the room is looked at: 9, or nothing is refused.
-  pub coverable-asks-room : Coverable G → coverVerdict G room ≡ cond (ltb room roomAsked) (refusal 9 0) nothingRefused
+  pub coverable-asks-room : Coverable (graphOf s) → coverVerdict s room ≡ cond (ltb room (roomAsked s)) (refusal 9 0) nothingRefused
   unfolding Answered
   coverable-asks-room = by answered
     where
-      by : Answered (coverVerdict G room) → Coverable G → coverVerdict G room ≡ cond (ltb room roomAsked) (refusal 9 0) nothingRefused
+      by : Answered (coverVerdict s room) → Coverable G → coverVerdict s room ≡ cond (ltb room (roomAsked s)) (refusal 9 0) nothingRefused
       by (inl (t, e)) c = e
       by (inr (p, n, e)) c = absurd (n .lacks (coverable-lies c p))
 
   -- So the number is 0, 8 or 9, and the place is 0 where nothing is refused.
-  pub cover-number : coverVerdict G room .number ≤ 9
+  pub cover-number : coverVerdict s room .number ≤ 9
   unfolding Answered
   cover-number = by answered
     where
@@ -194,11 +200,11 @@ module _ (G : Graph ℤ) (wf : WellFormed G) (room : ℕ) where
       low true = omega arith
       low false = omega arith
 
-      by : Answered (coverVerdict G room) → coverVerdict G room .number ≤ 9
-      by (inl (t, e)) = subst (λ (v : Verdict). v .number ≤ 9) (sym e) (low (ltb room roomAsked))
+      by : Answered (coverVerdict s room) → coverVerdict s room .number ≤ 9
+      by (inl (t, e)) = subst (λ (v : Verdict). v .number ≤ 9) (sym e) (low (ltb room (roomAsked s)))
       by (inr (p, n, e)) = omega (arith, ap (λ (v : Verdict). v .number) e)
 
-  pub cover-place-zero : coverVerdict G room .number ≡ 0 → coverVerdict G room .place ≡ 0
+  pub cover-place-zero : coverVerdict s room .number ≡ 0 → coverVerdict s room .place ≡ 0
   unfolding Answered
   cover-place-zero = by answered
     where
@@ -206,8 +212,8 @@ module _ (G : Graph ℤ) (wf : WellFormed G) (room : ℕ) where
       none true = refl
       none false = refl
 
-      by : Answered (coverVerdict G room) → coverVerdict G room .number ≡ 0 → coverVerdict G room .place ≡ 0
-      by (inl (t, e)) z = subst (λ (v : Verdict). v .place ≡ 0) (sym e) (none (ltb room roomAsked))
+      by : Answered (coverVerdict s room) → coverVerdict s room .number ≡ 0 → coverVerdict s room .place ≡ 0
+      by (inl (t, e)) z = subst (λ (v : Verdict). v .place ≡ 0) (sym e) (none (ltb room (roomAsked s)))
       by (inr (p, n, e)) z = absurd (omega (arith, ap (λ (v : Verdict). v .number) e))
 
 -- ---- what `first_lacking` gives, and what the builder makes of it
@@ -235,17 +241,34 @@ reads-stop G k (r ∷ rs) after = by (readLies G r) (reads-stop G (suc k) rs aft
     by false ih = refl
 
 -- "Then the builder gives 8 before 9": what is found of the items decides, and only then the room.
-pub lacking-then-room : (G : Graph ℤ) (room : ℕ) →
-    coverVerdict G room ≡ then (lieVerdict G nothingRefused) (cond (ltb room roomAsked) (refusal 9 0) nothingRefused)
+pub lacking-then-room : (s : List ℕ) (room : ℕ) →
+    coverVerdict s room ≡ then (lieVerdict (graphOf s) nothingRefused) (cond (ltb room (roomAsked s)) (refusal 9 0) nothingRefused)
 unfolding coverVerdict lieVerdict
-lacking-then-room G room =
+lacking-then-room s room =
+    let G = graphOf s in
     ap (asksLieVerdict G 0 (asks G)) (reads-stop G (length (G .vertices) + length (G .arcs)) (G .reads) _) ∙ asks-stop G 0 (asks G) _ _
 
+-- with the room that is asked for, what is found of the items is all
+room-enough : (s : List ℕ) → coverVerdict s (roomAsked s) ≡ lieVerdict (graphOf s) nothingRefused
+unfolding coverVerdict lieVerdict
+room-enough s =
+    let G = graphOf s in
+    ap (λ b. asksLieVerdict G 0 (asks G) (readsLieVerdict G (length (G .vertices) + length (G .arcs)) (G .reads) (cond b (refusal 9 0) nothingRefused)))
+    (le-ltb (roomAsked s) (roomAsked s) (le-refl (roomAsked s)))
+
 -- `first_lacking` refuses nothing exactly where a cover exists.
-pub none-lacking-iff-coverable : (G : Graph ℤ) → WellFormed G → (lieVerdict G nothingRefused .number ≡ 0) ↔ Coverable G
-unfolding coverVerdict lieVerdict Answered
-none-lacking-iff-coverable G wf = (found (answered G wf roomAsked), λ c. ap (λ (v : Verdict). v .number) (coverable-asks-room G wf roomAsked c))
+pub none-lacking-iff-coverable : (s : List ℕ) → WellFormed (graphOf s) → (lieVerdict (graphOf s) nothingRefused .number ≡ 0) ↔ Coverable (graphOf s)
+unfolding Answered
+none-lacking-iff-coverable s wf = (λ none. found (answered s wf (roomAsked s)) (same ∙ none), λ c. sym same ∙ given c)
   where
-    found : Answered G wf roomAsked (coverVerdict G roomAsked) → coverVerdict G roomAsked .number ≡ 0 → Coverable G
-    found (inl (t, e)) none = coverable-decided G wf .0 t
+    same : coverVerdict s (roomAsked s) .number ≡ lieVerdict (graphOf s) nothingRefused .number
+    same = ap (λ (v : Verdict). v .number) (room-enough s)
+
+    given : Coverable (graphOf s) → coverVerdict s (roomAsked s) .number ≡ 0
+    given c =
+        ap (λ (v : Verdict). v .number)
+        (coverable-asks-room s wf (roomAsked s) c ∙ ap (λ b. cond b (refusal 9 0) nothingRefused) (le-ltb (roomAsked s) (roomAsked s) (le-refl (roomAsked s))))
+
+    found : Answered s wf (roomAsked s) (coverVerdict s (roomAsked s)) → coverVerdict s (roomAsked s) .number ≡ 0 → Coverable (graphOf s)
+    found (inl (t, e)) none = coverable-decided (graphOf s) wf .0 t
     found (inr (p, n, e)) none = absurd (omega (arith, sym (ap (λ (v : Verdict). v .number) e) ∙ none))

@@ -10,7 +10,6 @@ use Rattle.mathematics.specs.Price.{whole}
 use Rattle.mathematics.proofs.PriceKinds.{whole-ordered}
 use Rattle.mathematics.proofs.Lowest.{lowest-prices-equal}
 use Rattle.forms.specs.declared.Verdict.{Verdict}
-use Rattle.forms.specs.GraphForm.{vertexCount}
 use Rattle.forms.specs.GraphOf.{graphOf}
 use Rattle.forms.specs.GraphFaults.{graphVerdict}
 use Rattle.forms.specs.AnswerForm.{coverOf}
@@ -39,7 +38,7 @@ built-twice s before after after′ r r′ P Q =
           let b = written-is-lowest s before after′ r′ Q (sym number ∙ e) in
           ap natAbs
           (sym (a .price-stated) ∙
-          (lowest-prices-equal whole whole-ordered (graphOf s) (coverOf (vertexCount s) (take (r .written) after)) (coverOf (vertexCount s) (take (r′ .written) after′))
+          (lowest-prices-equal whole whole-ordered (graphOf s) (coverOf s (take (r .written) after)) (coverOf s (take (r′ .written) after′))
           (a .lowest) (b .lowest) ∙ b .price-stated));
     }
   where
@@ -57,7 +56,7 @@ module _ (s before after : List ℕ) (r : Built) (P : BuildPromise s before afte
       by : (graphVerdict s .number ≡ 0) ⊎ (graphVerdict s .number ≢ 0) → r .number ≤ 9
       by (inl reads) =
           let G = graph-well-formed s (number-zero-iff-reads s .0 reads) in
-          omega (arith, ap (λ (v : Verdict). v .number) (P .verdict ∙ verdict-of-read s (length before) reads), cover-number _ G (length before))
+          omega (arith, ap (λ (v : Verdict). v .number) (P .verdict ∙ verdict-of-read s (length before) reads), cover-number s G (length before))
       by (inr not) = omega (arith, ap (λ (v : Verdict). v .number) (P .verdict ∙ verdict-of-unread s (length before) not), number-to-seven s)
 
   -- "both are 0 where nothing is refused"
@@ -68,5 +67,5 @@ module _ (s before after : List ℕ) (r : Built) (P : BuildPromise s before afte
       by (inl reads) =
           let same = P .verdict ∙ verdict-of-read s (length before) reads in
           let G = graph-well-formed s (number-zero-iff-reads s .0 reads) in
-          ap (λ (v : Verdict). v .place) same ∙ cover-place-zero _ G (length before) (sym (ap (λ (v : Verdict). v .number) same) ∙ e)
+          ap (λ (v : Verdict). v .place) same ∙ cover-place-zero s G (length before) (sym (ap (λ (v : Verdict). v .number) same) ∙ e)
       by (inr not) = absurd (not (sym (ap (λ (v : Verdict). v .number) (P .verdict ∙ verdict-of-unread s (length before) not)) ∙ e))

@@ -3,14 +3,15 @@
 use Prim.Native.Nat.{ℕ, zero, suc, _+_, _*_, _-_, _≤_, _<_}
 use native.Mathlib.Omega.{arith}
 use native.Mathlib.Nat.{mul-le-mul}
-use mathlib.Core.Path.{_≡_, refl, sym, ap, ap₂, _∙_}
+use mathlib.Core.Path.{_≡_, refl, sym, ap, ap₂, subst, _∙_}
 use mathlib.Core.List.{List, [], _∷_, _++_}
 use mathlib.Core.Logic.{_⊎_, inl, inr}
 use lib.Dec.{T}
 use lib.IntN.{ℤ, subℕ}
-use lib.ListN.{length, take, drop}
+use lib.ListN.{length, getD, take, drop}
+use lib.Seq.{length-take-le}
 use Rattle.mathematics.specs.Lists.{All}
-use Rattle.mathematics.specs.Graph.{linked}
+use Rattle.mathematics.specs.Graph.{linked, isPath}
 use Rattle.mathematics.specs.Cover.{Item, Weighted, totalWeight}
 use Rattle.mathematics.specs.Bound.{Marks, readsThrough}
 use Rattle.mathematics.specs.Reach.{useful}
@@ -26,19 +27,22 @@ use Rattle.forms.specs.GraphOf.{graphOf, arcItem}
 use Rattle.forms.specs.GraphReads.{Reads}
 use Rattle.forms.specs.GraphFaults.{graphVerdict}
 use Rattle.checker.specs.Check.{checkVerdict}
-use Rattle.checker.specs.Encode.{bytes32, word32, markBytes, pathBytes, encodeAnswer}
-use Rattle.forms.proofs.GraphFacts.{graph-well-formed, graph-within}
-use Rattle.checker.proofs.Inside.{linked-inside}
+use Rattle.checker.specs.Encode.{bytes16, bytes32, bytes64, word32, markBytes, pathBytes, encodeAnswer}
+use Rattle.forms.specs.Layout.{answerVersionOf, maxPathLength}
+use Rattle.forms.proofs.LayoutLaws.{path-length-limit, max-weight-is}
+use Rattle.forms.proofs.GraphFacts.{graph-well-formed, graph-within, graph-room}
+use Rattle.checker.proofs.Inside.{linked-inside, path-inside}
 use Rattle.network.specs.Network.{nth, sumTo, base, span, mostMoved, highest}
 use Rattle.paths.specs.Slots.{preparedOf, acrossSlot, copiesOf}
 use Rattle.wiring.specs.Lay.{ArcsCounted}
 use Rattle.paths.specs.Peel.{collectedAt, collected, PathTable, Peeled}
-use Rattle.builder.specs.Finish.{Flowed, arcWorth, priceFrom, heldMark, heldMarks, finalMarks, MarksHeld, Priced, Writable, PathsFit, Placed, Answered, mostThrough, mostPrice}
+use Rattle.builder.specs.Finish.{Flowed, arcWorth, priceFrom, heldMark, finalMarks, MarksHeld, Priced, Answered, mostThrough, mostPrice}
 use Rattle.reads.specs.ReadTable.{rowLength, tableRows}
 use Rattle.forms.specs.Limits.{maxCost}
-use Rattle.builder.proofs.FinishLaws.{placed-length, placed-taken}
+use Rattle.writing.specs.Writing.{Placed, heldMarks, Writable, PathsFit}
+use Rattle.writing.proofs.WritingLaws.{placed-length, placed-taken, collected-length}
 use Rattle.wiring.proofs.SlotLaws
-use Rattle.builder.proofs.Certificate.{certificate-accepted}
+use Rattle.builder.proofs.Certificate.{slots-few, certificate-accepted}
 
 -- ---- reads through an item are few
 
@@ -54,10 +58,10 @@ module _ (s : List ℕ) (right : Reads s) where
           let g = graph-well-formed s right in
           let a = arc-rises (length (graphOf s .vertices)) (graphOf s .arcs) v w (g .rises) (linked-first (graphOf s .arcs) v w r (h .1)) in
           let b = linked-inside (graphOf s) g v (w ∷ r) (omega (arith, a .0, a .1)) (h .1) .1 in
-          omega (arith, graph-within s right .few-vertices)
+          omega (arith, graph-room s right .vertices)
 
   reads-through : (i : Item) → readsThrough i (preparedOf s) ≤ 2 * rowLength * tableRows
-  reads-through i = omega (arith, reads-few rowLength i (preparedOf s) reads-short, prepared-fewer (graphOf s .reads), graph-within s right .few-reads)
+  reads-through i = omega (arith, reads-few rowLength i (preparedOf s) reads-short, prepared-fewer (graphOf s .reads), graph-room s right .reads)
 
   module _ (from to mark full : List ℕ) (fl : Flowed s from to mark full) where
     total-low : (a : ℕ) → a < arcCount s → nth full (acrossSlot s a) + readsThrough (arcItem s a) (preparedOf s) ≤ mostThrough
@@ -77,7 +81,7 @@ module _ (s : List ℕ) (right : Reads s) where
     price-low =
         let h = right .arcs .header in
         let k = mul-le-mul (fl .loaded .few) (h .low-opening) in
-        omega (arith, sum-low (arcCount s) (omega arith), h .few-arcs)
+        omega (arith, sum-low (arcCount s) (omega arith), h .arcs-room)
 
     -- the price can be reckoned
     pub priced : (arcReads : List ℕ) → ArcsCounted s arcReads → Priced s full arcReads
@@ -97,15 +101,24 @@ module _ (s : List ℕ) (right : Reads s) where
           side-among (λ x. x ≤ 2 * base) (graphOf s) (base - span) highest (nth mark (side v)) v (λ u. omega (arith, h v u)) (omega arith) (omega arith)
 
       -- the marks fit their fields
-      pub writable : (n : ℕ) → n ≡ vertexCount s → Writable n into out
-      writable n e =
+      pub writable : Writable s into out
+      writable =
           record {
-            few = omega (arith, right .arcs .header .few-vertices);
-            into-low = λ v h. omega (arith, M .into-held v (omega arith), held-low inNode (λ w u. fl .settled .in-near w u .0) v);
-            out-low = λ v h. omega (arith, M .out-held v (omega arith), held-low outNode (λ w u. fl .settled .out-near w u .0) v);
+            header = right .arcs .header;
+            into-low = λ v h. omega (arith, M .into-held v h, held-low inNode (λ w u. fl .settled .in-near w u .0) v);
+            out-low = λ v h. omega (arith, M .out-held v h, held-low outNode (λ w u. fl .settled .out-near w u .0) v);
           }
 
 -- ---- the paths fit their fields
+
+-- what holds of a whole list made from numbers holds of each of its parts
+all-untabulate : {A : Type 0} (f : ℕ → A) (P : A → Type 0) (k i : ℕ) → All P (tabulate f k i) → (j : ℕ) → i ≤ j → j < i + k → P (f j)
+all-untabulate f P zero i h j a b = absurd (omega arith)
+all-untabulate f P (suc k) i h j a b = pick (SlotLaws.first-or-later i j a) (λ g. all-untabulate f P k (suc i) (h .1) j g (omega arith))
+  where
+    pick : (i ≡ j) ⊎ (suc i ≤ j) → (suc i ≤ j → P (f j)) → P (f j)
+    pick (inl e) more = subst (λ x. P (f x)) e (h .0)
+    pick (inr g) more = more g
 
 weight-below : (f : ℕ → Weighted) (k i j : ℕ) → i ≤ j → j < i + k → f j .weight ≤ totalWeight (tabulate f k i)
 weight-below f zero i j h l = absurd (omega arith)
@@ -115,18 +128,30 @@ weight-below f (suc k) i j h l = pick (SlotLaws.first-or-later i j h) (λ g. wei
     pick (inl e) more = omega (arith, ap (λ x. f x .weight) e)
     pick (inr g) more = omega (arith, more g)
 
-pub paths-fit : (s full : List ℕ) (rows : List (List ℕ)) (lens weights : List ℕ) (count : ℕ) → PathTable rows lens weights count →
-    Peeled s full (collected rows lens weights count) → copiesOf s full ≤ mostMoved → PathsFit rows lens weights count
-unfolding collected
-paths-fit s full rows lens weights count table taken few =
-    record {
-      few = table .counted;
-      tall = table .tall;
-      wide = table .wide;
-      short = table .fit;
-      light = λ k h.
-          omega (arith, weight-below (collectedAt rows lens weights) count 0 k (omega arith) (omega arith), taken .copies ∙ SlotLaws.opens-worth s full);
-    }
+module _ (s : List ℕ) (right : Reads s) (full : List ℕ) (rows : List (List ℕ)) (lens weights : List ℕ) (count : ℕ) (table : PathTable rows lens weights count)
+    (taken : Peeled s full (collected rows lens weights count)) where
+  -- the path in a row has no more vertices than the graph
+  path-short : (k : ℕ) → k < count → nth lens k ≤ maxPathLength s
+  unfolding collected
+  path-short k h =
+      let p : List ℕ = collectedAt rows lens weights k .path in
+      let long : length p ≡ nth lens k = length-take-le (nth lens k) (getD rows k []) (omega (arith, table .wide k h, table .fit k h)) in
+      let is-path : T (isPath (graphOf s) p) = all-untabulate (collectedAt rows lens weights) (λ w. T (isPath (graphOf s) (w .path))) count 0 (taken .are-paths) k (omega arith) (omega arith) in
+      let inside = path-inside (graphOf s) (graph-well-formed s right) p is-path in
+      omega (arith, inside .2, long, graph-within s right .few-vertices, path-length-limit s)
+
+  pub paths-fit : copiesOf s full ≤ mostMoved → PathsFit s rows lens weights count
+  unfolding collected
+  paths-fit few =
+      record {
+        header = right .arcs .header;
+        few = omega (arith, taken .few, collected-length rows lens weights count, slots-few s right);
+        tall = table .tall;
+        wide = table .wide;
+        short = path-short;
+        light = λ k h.
+            omega (arith, weight-below (collectedAt rows lens weights) count 0 k (omega arith) (omega arith), taken .copies ∙ SlotLaws.opens-worth s full);
+      }
 
 -- ---- what is written is accepted
 
@@ -137,31 +162,31 @@ marks-same m q (suc n) k h =
     ap₂ (λ a b. bytes32 (word32 a) ++ (bytes32 (word32 b) ++ markBytes m n (suc k))) (e .0) (e .1) ∙
     ap (λ z. bytes32 (word32 (q .into k)) ++ (bytes32 (word32 (q .out k)) ++ z)) (marks-same m q n (suc k) (λ v a b. h v (omega arith) (omega arith)))
 
-encode-same : (n price : ℕ) (m q : Marks ℤ) (W : List Weighted) → ((v : ℕ) → v < n → (m .into v ≡ q .into v) × (m .out v ≡ q .out v)) →
-    encodeAnswer n price m W ≡ encodeAnswer n price q W
+encode-same : (s : List ℕ) (price : ℕ) (m q : Marks ℤ) (W : List Weighted) → ((v : ℕ) → v < vertexCount s → (m .into v ≡ q .into v) × (m .out v ≡ q .out v)) →
+    encodeAnswer s price m W ≡ encodeAnswer s price q W
 unfolding encodeAnswer
-encode-same n price m q W h =
-    ap (λ z. let after = 1 ∷ (Rattle.checker.specs.Encode.bytes16 (length W) ++ (Rattle.checker.specs.Encode.bytes64 price ++ (z ++ pathBytes W))) in bytes32 (4 + length after) ++ after)
-    (marks-same m q n 0 (λ v a b. h v (omega arith)))
+encode-same s price m q W h =
+    ap (λ z. let after = answerVersionOf s ∷ (bytes16 (length W) ++ (bytes64 price ++ (z ++ pathBytes s W))) in bytes32 (4 + length after) ++ after)
+    (marks-same m q (vertexCount s) 0 (λ v a b. h v (omega arith)))
 
 -- The answer form put at the front is accepted, and every other byte is kept.
-pub answered : (s before after mark full : List ℕ) (from to : List ℕ) (into out : List ℕ) (W : List Weighted) (n price r : ℕ) → graphVerdict s .number ≡ 0 → n ≡ vertexCount s →
+pub answered : (s before after mark full : List ℕ) (from to : List ℕ) (into out : List ℕ) (W : List Weighted) (price r : ℕ) → graphVerdict s .number ≡ 0 →
     Flowed s from to mark full → Peeled s full W → MarksHeld s mark into out → price ≡ priceFrom s full →
-    Placed before 0 (encodeAnswer n price (heldMarks (nth into) (nth out)) W) after → r ≡ length (encodeAnswer n price (heldMarks (nth into) (nth out)) W) → Answered s before after r
-answered s before after mark full from to into out W n price r reads en fl taken M ep P er =
+    Placed before 0 (encodeAnswer s price (heldMarks (nth into) (nth out)) W) after → r ≡ length (encodeAnswer s price (heldMarks (nth into) (nth out)) W) → Answered s before after r
+answered s before after mark full from to into out W price r reads fl taken M ep P er =
     record {
-      accepted = ap (checkVerdict s) (ap (λ k. take k after) er ∙ (t .0 ∙ same)) ∙ certificate-accepted s reads mark (fl .added) full (fl .settled) W taken (fl .loaded .few);
+      accepted = ap (checkVerdict s) (ap (λ k. take k after) er ∙ (t .0 ∙ same)) ∙ certificate-accepted s reads mark (fl .added) full (fl .settled) W taken (omega (arith, fl .loaded .few, max-weight-is s));
       fits = omega (arith, P .room);
       behind = ap (λ k. drop k after) er ∙ (t .1 ∙ sym (ap (λ k. drop k before) er));
       same-length = placed-length before after 0 _ P;
     }
   where
-    t : (take (length (encodeAnswer n price (heldMarks (nth into) (nth out)) W)) after ≡ encodeAnswer n price (heldMarks (nth into) (nth out)) W) ×
-        (drop (length (encodeAnswer n price (heldMarks (nth into) (nth out)) W)) after ≡ drop (length (encodeAnswer n price (heldMarks (nth into) (nth out)) W)) before)
+    t : (take (length (encodeAnswer s price (heldMarks (nth into) (nth out)) W)) after ≡ encodeAnswer s price (heldMarks (nth into) (nth out)) W) ×
+        (drop (length (encodeAnswer s price (heldMarks (nth into) (nth out)) W)) after ≡ drop (length (encodeAnswer s price (heldMarks (nth into) (nth out)) W)) before)
     t = placed-taken before after _ P
 
-    same : encodeAnswer n price (heldMarks (nth into) (nth out)) W ≡ encodeAnswer (vertexCount s) (priceFrom s full) (finalMarks s mark) W
+    same : encodeAnswer s price (heldMarks (nth into) (nth out)) W ≡ encodeAnswer s (priceFrom s full) (finalMarks s mark) W
     same =
-        ap₂ (λ a b. encodeAnswer a b (heldMarks (nth into) (nth out)) W) en ep ∙
-        encode-same (vertexCount s) (priceFrom s full) (heldMarks (nth into) (nth out)) (finalMarks s mark) W
+        ap (λ b. encodeAnswer s b (heldMarks (nth into) (nth out)) W) ep ∙
+        encode-same s (priceFrom s full) (heldMarks (nth into) (nth out)) (finalMarks s mark) W
         (λ v h. (ap (λ x. subℕ x base) (M .into-held v h), ap (λ x. subℕ x base) (M .out-held v h)))

@@ -21,7 +21,7 @@ use Rattle.forms.specs.BuildFaults.{roomAsked, buildVerdict}
 use Rattle.builder.specs.Build.{BuildPromise}
 use Rattle.reach.specs.Reached.{lieVerdict}
 use Rattle.builder.specs.Finish.{Answered}
-use Rattle.forms.specs.Limits.{longestAnswer}
+use Rattle.forms.specs.Layout.{longestAnswer}
 use Rattle.builder.proofs.Coverable.{lacking-then-room, none-lacking-iff-coverable}
 use Rattle.builder.proofs.Lowest.{verdict-of-read, verdict-of-unread}
 
@@ -54,12 +54,12 @@ module _ (s out : List ℕ) (v : Verdict) (ev : v ≡ graphVerdict s) where
 
     -- w: an item lies on no path, or nothing is refused; u: then 9, where the room is too small
     module _ (w : Verdict) (ew : w ≡ lieVerdict (graphOf s) nothingRefused)
-        (u : Verdict) (eu : u ≡ then w (cond (ltb (length out) roomAsked) (refusal 9 0) nothingRefused)) where
+        (u : Verdict) (eu : u ≡ then w (cond (ltb (length out) (roomAsked s)) (refusal 9 0) nothingRefused)) where
       verdict-is : buildVerdict s (length out) ≡ u
       verdict-is =
           verdict-of-read s (length out) number-zero ∙
-          (lacking-then-room (graphOf s) (length out) ∙
-          (ap (λ x. then x (cond (ltb (length out) roomAsked) (refusal 9 0) nothingRefused)) (sym ew) ∙ sym eu))
+          (lacking-then-room s (length out) ∙
+          (ap (λ x. then x (cond (ltb (length out) (roomAsked s)) (refusal 9 0) nothingRefused)) (sym ew) ∙ sym eu))
 
       pub promise-refused : (u .number ≡ 0 → ⊥) → BuildPromise s out out (record { number = u .number; place = u .place; written = 0 })
       promise-refused n = refused-so s out (u .number) (u .place) n (sym verdict-is)
@@ -73,16 +73,16 @@ module _ (s out : List ℕ) (v : Verdict) (ev : v ≡ graphVerdict s) where
             ]
 
         pub coverable-then : Coverable (graphOf s)
-        coverable-then = none-lacking-iff-coverable (graphOf s) (graph-well-formed s reads-then) .0 (sym (ap (λ (x : Verdict). x .number) ew) ∙ none-lacking)
+        coverable-then = none-lacking-iff-coverable s (graph-well-formed s reads-then) .0 (sym (ap (λ (x : Verdict). x .number) ew) ∙ none-lacking)
 
-        room-decides : u ≡ cond (ltb (length out) roomAsked) (refusal 9 0) nothingRefused
+        room-decides : u ≡ cond (ltb (length out) (roomAsked s)) (refusal 9 0) nothingRefused
         room-decides = eu ∙ sym (then-passed {x = w} refl none-lacking refl)
 
-        pub room-then : longestAnswer ≤ length out
+        pub room-then : longestAnswer s ≤ length out
         room-then =
-            elim (decLt (length out) roomAsked) [
+            elim (decLt (length out) (roomAsked s)) [
               | yes l ↦
-                  let e : u .number ≡ 9 = ap (λ (x : Verdict). x .number) (room-decides ∙ ap (λ b. cond b (refusal 9 0) nothingRefused) (lt-ltb (length out) roomAsked l)) in
+                  let e : u .number ≡ 9 = ap (λ (x : Verdict). x .number) (room-decides ∙ ap (λ b. cond b (refusal 9 0) nothingRefused) (lt-ltb (length out) (roomAsked s) l)) in
                   absurd (omega (arith, none))
               | no l ↦ omega arith
             ]
@@ -91,7 +91,7 @@ module _ (s out : List ℕ) (v : Verdict) (ev : v ≡ graphVerdict s) where
         promise-built after r A =
             record {
               verdict =
-                  sym (verdict-is ∙ (room-decides ∙ ap (λ b. cond b (refusal 9 0) nothingRefused) (le-ltb (length out) roomAsked room-then)));
+                  sym (verdict-is ∙ (room-decides ∙ ap (λ b. cond b (refusal 9 0) nothingRefused) (le-ltb (length out) (roomAsked s) room-then)));
               refused = λ n. absurd (n refl);
               accepted = λ _. A .accepted;
               fits = A .fits;

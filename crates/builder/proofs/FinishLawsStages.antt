@@ -15,7 +15,7 @@ use Rattle.forms.specs.GraphForm.{vertexCount, arcCount}
 use Rattle.forms.specs.GraphOf.{graphOf}
 use Rattle.forms.specs.GraphReads.{Reads}
 use Rattle.reads.specs.ReadTable.{rowsOf, Leaves, tableRows}
-use Rattle.certify.specs.Certify.{Counted, CountsLow}
+use Rattle.certify.specs.Certify.{ReadsCounted, CountsLow}
 use Rattle.reads.proofs.TableRows.{table-length}
 use Rattle.network.specs.Network.{nth, sumTo, leaving, entering, base, Keys, Chained, Shape, Waiting, Carried, mostNodes, mostEdges, mostMoved}
 use Rattle.paths.specs.Slots.{preparedOf, plainSlots, allSlots}
@@ -23,7 +23,7 @@ use Rattle.wiring.specs.Lay.{EdgesLaid, LoadsLaid, Summable, Tallied, Balanced}
 use Rattle.paths.specs.Peel.{opensAt, worthOf, Ready}
 use Rattle.builder.specs.Finish.{Added, Loaded, Flowed}
 use Rattle.builder.specs.Stages.{ReadsReady, Layable, Blank, NetworkLaid, OneAdded, dropped, joined, Adding, AtBase}
-use Rattle.forms.specs.Limits.{maxVertices, maxArcs, maxDemand}
+use Rattle.forms.specs.Limits.{roomVertices, roomArcs, maxDemand}
 use Rattle.network.proofs.NetworkLaws.{same-or-not}
 use Rattle.wiring.proofs.Shape.{shape-of-graph, ends-live, first-loads-in-use, summable, balance-sums, ready-to-carry}
 use Rattle.wiring.proofs.SlotLaws.{opens-worth}
@@ -36,11 +36,11 @@ pub leaves-count : (rows : List (List ℕ)) (lens : List ℕ) (count : ℕ) (rs 
 leaves-count rows lens count rs L = sym (table-length rows lens count (L .table)) ∙ ap length (L .reads)
 
 pub reads-ready : (s : List ℕ) (r₁ r₂ : List (List ℕ)) (l₁ l₂ : List ℕ) (all count : ℕ) (vertexReads arcReads : List ℕ) →
-    Leaves r₁ l₁ all (graphOf s .reads) → Leaves r₂ l₂ count (prepare (rowsOf r₁ l₁ all)) → Counted s (rowsOf r₂ l₂ count) vertexReads arcReads →
+    Leaves r₁ l₁ all (graphOf s .reads) → Leaves r₂ l₂ count (prepare (rowsOf r₁ l₁ all)) → ReadsCounted s (rowsOf r₂ l₂ count) vertexReads arcReads →
     ReadsReady s r₂ l₂ count vertexReads arcReads
 reads-ready s r₁ r₂ l₁ l₂ all count vertexReads arcReads A B C =
     let L : Leaves r₂ l₂ count (preparedOf s) = subst (λ rs. Leaves r₂ l₂ count (prepare rs)) (A .reads) B in
-    let D : Counted s (preparedOf s) vertexReads arcReads = subst (λ rs. Counted s rs vertexReads arcReads) (L .reads) C in
+    let D : ReadsCounted s (preparedOf s) vertexReads arcReads = subst (λ rs. ReadsCounted s rs vertexReads arcReads) (L .reads) C in
     record { table = L; vertices = record { each = D .vertices }; arcs = record { each = D .arcs } }
 
 -- ---- arrays as they are made
@@ -50,13 +50,13 @@ zeros zero u = refl
 zeros (suc n) zero = refl
 zeros (suc n) (suc u) = zeros n u
 
-pub blank-counts : (s : List ℕ) → CountsLow s (replicate maxVertices 0) (replicate maxArcs 0) 0
+pub blank-counts : (s : List ℕ) → CountsLow s (replicate roomVertices 0) (replicate roomArcs 0) 0
 blank-counts s =
     record {
-      vertices-long = length-replicate {A = ℕ} maxVertices 0;
-      arcs-long = length-replicate {A = ℕ} maxArcs 0;
-      vertices = λ v h. omega (arith, zeros maxVertices v);
-      arcs = λ a h. omega (arith, zeros maxArcs a);
+      vertices-long = length-replicate {A = ℕ} roomVertices 0;
+      arcs-long = length-replicate {A = ℕ} roomArcs 0;
+      vertices = λ v h. omega (arith, zeros roomVertices v);
+      arcs = λ a h. omega (arith, zeros roomArcs a);
     }
 
 pub blank : (from to full : List ℕ) → length from ≡ mostEdges → length to ≡ mostEdges → length full ≡ mostEdges →
@@ -171,7 +171,7 @@ module _ (s : List ℕ) (kept : List Bool) (Y : Layable s kept) where
     pub laid-waiting : (load mark : List ℕ) → length load ≡ mostEdges → length mark ≡ mostNodes → ((e : ℕ) → e < plainSlots s → nth load e ≡ 0) → ((u : ℕ) → u < mostNodes → nth mark u ≡ base) →
         Waiting (2 * vertexCount s + 1) (plainSlots s) live load mark surplus deficit
     laid-waiting load mark a b c d =
-        let few = Y .reads .arcs .header .few-vertices in
+        let few = Y .reads .arcs .header .vertices-room in
         ready-to-carry s (Y .reads) (Y .coverable) from to cost first (L .edges) (L .loads) live (L .nodes) surplus deficit (L .balance) load mark a b c (λ u h. d u (omega arith))
 
     -- the first loads are low
@@ -220,7 +220,7 @@ module _ (s : List ℕ) (kept : List Bool) (Y : Layable s kept) (n m : ℕ) (en 
     pub to-add : length load ≡ mostEdges → ((3 * n + m ≤ mostEdges) × (length load ≡ mostEdges) × (length first ≡ mostEdges)) × ((e : ℕ) → e < 3 * n + m → (nth load e ≤ mostMoved) × (nth first e ≤ maxDemand))
     to-add long =
         let h = Y .reads .arcs .header in
-        ((omega (arith, h .few-vertices, h .few-arcs), long, L .loads .long), λ e l. loads-low s kept Y from to cost first live surplus deficit L load mark moved e (omega arith))
+        ((omega (arith, h .vertices-room, h .arcs-room), long, L .loads .long), λ e l. loads-low s kept Y from to cost first live surplus deficit L load mark moved e (omega arith))
 
     pub flow-done : (added full : List ℕ) → Added (3 * n + m) from to load first added full → Flowed s from to mark full
     flow-done added full A =
@@ -235,8 +235,8 @@ module _ (s : List ℕ) (right : Reads s) (c : Coverable (graphOf s)) (n m count
   all-keys head next few a b =
       let h = right .arcs .header in
       record {
-        few-nodes = omega (arith, h .few-vertices);
-        few-edges = omega (arith, h .few-vertices, h .few-arcs);
+        few-nodes = omega (arith, h .vertices-room);
+        few-edges = omega (arith, h .vertices-room, h .arcs-room);
         key-node = λ e l. omega (arith, L .goes .from-right e (omega arith), ends-live s right c e (omega arith) .0 .0);
         head-long = a;
         next-long = b;
@@ -249,7 +249,7 @@ module _ (s : List ℕ) (right : Reads s) (c : Coverable (graphOf s)) (n m count
         reads = right;
         held = record {
           vertices-right = en;
-          few-vertices = omega (arith, right .arcs .header .few-vertices);
+          few-vertices = omega (arith, right .arcs .header .vertices-room);
           plain-right = omega arith;
           table = subst (λ k. Leaves rows lens k (preparedOf s)) ec T;
         };

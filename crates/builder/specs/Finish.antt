@@ -1,12 +1,12 @@
--- What the last part of a build has in hand: marks and loads as the flow leaves them, the price that they come to, and bytes put into the output. Private
--- functions cite these; no public promise does.
+-- What the last part of a build has in hand: marks and loads as the flow leaves them, and the price that they come to. Private functions cite these; no
+-- public promise does.
 use Prim.Native.Nat.{ℕ, _+_, _*_, _-_, _≤_, _<_}
 use mathlib.Core.Path.{_≡_}
-use mathlib.Core.List.{List, [], _++_}
+use mathlib.Core.List.{List}
 use mathlib.Core.Bool.{cond}
 use lib.Dec.{T, eqb}
-use lib.IntN.{ℤ, subℕ}
-use lib.ListN.{length, getD, take, drop}
+use lib.IntN.{ℤ}
+use lib.ListN.{length, take, drop}
 use Rattle.mathematics.specs.Bound.{readsThrough, Marks}
 use Rattle.mathematics.specs.Reach.{useful}
 use Rattle.mathematics.specs.Links.{inNode, outNode, linkFrom, linkTo, sideMark}
@@ -19,8 +19,8 @@ use Rattle.network.specs.Network.{nth, sumTo, base, span, mostEdges, mostMoved,
 use Rattle.paths.specs.Slots.{preparedOf, plainSlots, acrossSlot, readingSlot, linkAt, inUse, edgeCost, firstLoad, copiesOf}
 use Rattle.paths.specs.Peel.{GoesRound}
 use Rattle.reads.specs.ReadTable.{rowLength, tableRows}
-use Rattle.forms.specs.Limits.{maxVertices, maxDemand, maxOpening, maxArcs, maxCost}
-use Rattle.forms.specs.AnswerForm.{pathHeaderLength}
+use Rattle.forms.specs.Limits.{maxDemand, maxOpening, maxCost, roomArcs}
+use Rattle.writing.specs.Writing.{heldMarks}
 
 -- ---- sizes, from those of the form, of the tables and of the network
 
@@ -30,11 +30,7 @@ mostThrough = mostMoved + maxDemand + 2 * rowLength * tableRows
 
 -- so no price is higher
 abbrev pub mostPrice : ℕ
-mostPrice = mostMoved * maxOpening + maxArcs * (mostThrough * maxCost)
-
--- no record of a path is longer
-abbrev pub longestRecord : ℕ
-longestRecord = pathHeaderLength + rowLength
+mostPrice = mostMoved * maxOpening + roomArcs * (mostThrough * maxCost)
 
 -- ---- what stands in the arrays
 
@@ -64,32 +60,9 @@ priceFrom s full = copiesOf s full * openingPrice s + sumTo (arcCount s) (arcWor
 unfoldable pub heldMark : List ℕ → (ℕ → ℕ) → List ℕ → ℕ → ℕ
 heldMark s side mark v = sideMark (graphOf s) (base - span) highest (nth mark (side v)) v
 
--- the marks that are held so
-abbrev pub heldMarks : (ℕ → ℕ) → (ℕ → ℕ) → Marks ℤ
-heldMarks into out = record { into = λ v. subℕ (into v) base; out = λ v. subℕ (out v) base }
-
 -- the final marks of the form's vertices
 abbrev pub finalMarks : List ℕ → List ℕ → Marks ℤ
 finalMarks s mark = heldMarks (heldMark s inNode mark) (heldMark s outNode mark)
-
--- The bytes put at a place, and nothing else changed.
-pub record Placed (before : List ℕ) (place : ℕ) (bytes after : List ℕ) : Type 0 where
-  pub room : place + length bytes ≤ length before
-  pub is : after ≡ take place before ++ (bytes ++ drop (place + length bytes) before)
-
--- the marks of n vertices, held with `base` added, can be written: none is above twice the base
-pub record Writable (n : ℕ) (into out : List ℕ) : Type 0 where
-  pub few : n ≤ maxVertices
-  pub into-low : (v : ℕ) → v < n → nth into v ≤ 2 * base
-  pub out-low : (v : ℕ) → v < n → nth out v ≤ 2 * base
-
--- the rows of a table of collected paths fit an answer form's fields
-pub record PathsFit (rows : List (List ℕ)) (lens weights : List ℕ) (count : ℕ) : Type 0 where
-  pub few : count ≤ mostEdges
-  pub tall : length rows ≡ mostEdges
-  pub wide : (k : ℕ) → k < count → length (getD rows k []) ≡ rowLength
-  pub short : (k : ℕ) → k < count → nth lens k ≤ rowLength
-  pub light : (k : ℕ) → k < count → nth weights k < 4_294_967_296
 
 -- the arrays hold the final marks of all vertices of the form
 pub record MarksHeld (s mark into out : List ℕ) : Type 0 where

@@ -2,16 +2,16 @@
 use crate::Built;
 use crate::finish::final_marks;
 use crate::finish::final_price;
-use crate::finish::write_answer;
 use certify::count_reads;
 use certify::load_reads;
-use checker::Answer;
 use checker::Graph;
 use checker::Verdict;
 use checker::reader::read_graph;
 use forms::arcs::first_arcs;
-use forms::bytes::be16;
-use forms::bytes::wide;
+use forms::fields::arc_count;
+use forms::fields::vertex_count;
+use forms::layout::longest_answer;
+use forms::roles::roles;
 use network::BASE;
 use network::EDGES;
 use network::NODES;
@@ -29,6 +29,7 @@ use wiring::lay_balance;
 use wiring::lay_edges;
 use wiring::lay_live;
 use wiring::lay_loads;
+use writing::write_answer;
 ghost use mathlib.Core.Path.{_≡_};
 ghost use mathlib.Core.Bool.{cond};
 ghost use lib.Dec.{ltb};
@@ -49,15 +50,17 @@ ghost use Rattle.paths.specs.Peel.{PathTable, Peeled, collected};
 ghost use Rattle.builder.specs.Finish.{Added, Loaded, Flowed, Answered};
 ghost use Rattle.builder.specs.Build.{BuildPromise};
 ghost use Rattle.builder.specs.Stages.{ReadsReady, Layable, Blank, NetworkLaid, OneAdded, AtBase};
-ghost use Rattle.forms.specs.Limits.{maxVertices, maxDemand, longestAnswer};
+ghost use Rattle.forms.specs.Layout.{longestAnswer};
+ghost use Rattle.forms.specs.Limits.{roomVertices, maxDemand};
+ghost use Rattle.forms.specs.Roles.{Roles};
 
 // Fills the table with the prepared reads and counts what they pass; gives how many there are.
 fn prepare_table(
     s: &[u8],
     rows: &mut [[u8; ROW]; ROWS],
     lens: &mut [usize; ROWS],
-    vertex_reads: &mut [usize; Graph::MAX_VERTICES],
-    arc_reads: &mut [usize; Graph::MAX_ARCS],
+    vertex_reads: &mut [usize; Graph::ROOM_VERTICES],
+    arc_reads: &mut [usize; Graph::ROOM_ARCS],
 ) -> usize
     requires { ⌜ Reads (now s) × TableSized (now rows) (now lens) × CountsLow (now s) (now «vertex_reads») (now «arc_reads») 0 ⌝ }
     ensures { λ r. ⌜ ReadsReady (now (s .entry)) (now (rows .exit)) (now (lens .exit)) r (now («vertex_reads» .exit)) (now («arc_reads» .exit)) ⌝ }
@@ -72,14 +75,14 @@ fn prepare_table(
 // Marks the vertices that a start leads to and that lead on to an end.
 fn keep_useful(
     s: &[u8],
-    reached: &[bool; Graph::MAX_VERTICES],
-    reaching: &[bool; Graph::MAX_VERTICES],
-    kept: &mut [bool; Graph::MAX_VERTICES],
+    reached: &[bool; Graph::ROOM_VERTICES],
+    reaching: &[bool; Graph::ROOM_VERTICES],
+    kept: &mut [bool; Graph::ROOM_VERTICES],
 )
-    requires { ⌜ Reachable (now s) (now reached) (now reaching) × (length (now kept) ≡ maxVertices) ⌝ }
+    requires { ⌜ Reachable (now s) (now reached) (now reaching) × (length (now kept) ≡ roomVertices) ⌝ }
     ensures { λ _. ⌜ Tells (now (s .entry)) (useful (graphOf (now (s .entry)))) (now (kept .exit)) ⌝ }
 {
-    let n = wide(s[Graph::AT_VERTICES]);
+    let n = vertex_count(s);
     let mut v: usize = 0;
     while v < n {
         kept[v] = both(reached[v], reaching[v]);
@@ -90,12 +93,13 @@ fn keep_useful(
 // Lays the working network: edges, first loads, live nodes, and what has to move.
 fn lay_network(
     s: &[u8],
-    kept: &[bool; Graph::MAX_VERTICES],
+    roles: &[u8; Graph::ROOM_VERTICES],
+    kept: &[bool; Graph::ROOM_VERTICES],
     rows: &[[u8; ROW]; ROWS],
     lens: &[usize; ROWS],
     count: usize,
-    vertex_reads: &[usize; Graph::MAX_VERTICES],
-    arc_reads: &[usize; Graph::MAX_ARCS],
+    vertex_reads: &[usize; Graph::ROOM_VERTICES],
+    arc_reads: &[usize; Graph::ROOM_ARCS],
     from: &mut [usize; EDGES],
     to: &mut [usize; EDGES],
     cost: &mut [u64; EDGES],
@@ -104,14 +108,14 @@ fn lay_network(
     surplus: &mut [u64; NODES],
     deficit: &mut [u64; NODES],
 )
-    requires { ⌜ Layable (now s) (now kept) ⌝ }
+    requires { ⌜ Layable (now s) (now kept) × Roles (now s) (now roles) ⌝ }
     requires { ⌜ ReadsReady (now s) (now rows) (now lens) count (now «vertex_reads») (now «arc_reads») ⌝ }
     requires { ⌜ Blank (now from) (now to) (now cost) (now full) (now live) (now surplus) (now deficit) ⌝ }
     ensures { λ _. ⌜ NetworkLaid (now (s .entry)) (now (from .exit)) (now (to .exit)) (now (cost .exit)) (now (full .exit)) (now (live .exit)) (now (surplus .exit)) (now (deficit .exit)) ⌝ }
 {
-    let n = wide(s[Graph::AT_VERTICES]);
-    let m = be16(s, Graph::AT_ARCS);
-    lay_edges(s, kept, rows, lens, count, from, to, cost);
+    let n = vertex_count(s);
+    let m = arc_count(s);
+    lay_edges(s, roles, kept, rows, lens, count, from, to, cost);
     lay_loads(s, vertex_reads, arc_reads, count, full);
     lay_live(s, kept, live);
     lay_balance(
@@ -221,8 +225,8 @@ fn take_paths(
     requires { ⌜ (length (now paths) ≡ mostEdges) × (length (now sizes) ≡ mostEdges) × (length (now weights) ≡ mostEdges) ⌝ }
     ensures { λ r. ⌜ Peeled (now (s .entry)) (now (full .entry)) (collected (now (paths .exit)) (now (sizes .exit)) (now (weights .exit)) r) × PathTable (now (paths .exit)) (now (sizes .exit)) (now (weights .exit)) r ⌝ }
 {
-    let n = wide(s[Graph::AT_VERTICES]);
-    let m = be16(s, Graph::AT_ARCS);
+    let n = vertex_count(s);
+    let m = arc_count(s);
     let plain = 3 * n + m;
     let edges = plain + count;
     let mut head = [0usize; NODES];
@@ -249,24 +253,25 @@ fn take_paths(
 // Finds the flow of lowest cost: marks of the nodes, and what each link carries in all.
 fn flow(
     s: &[u8],
-    kept: &[bool; Graph::MAX_VERTICES],
+    roles: &[u8; Graph::ROOM_VERTICES],
+    kept: &[bool; Graph::ROOM_VERTICES],
     rows: &[[u8; ROW]; ROWS],
     lens: &[usize; ROWS],
     count: usize,
-    vertex_reads: &[usize; Graph::MAX_VERTICES],
-    arc_reads: &[usize; Graph::MAX_ARCS],
+    vertex_reads: &[usize; Graph::ROOM_VERTICES],
+    arc_reads: &[usize; Graph::ROOM_ARCS],
     from: &mut [usize; EDGES],
     to: &mut [usize; EDGES],
     mark: &mut [u64; NODES],
     full: &mut [u64; EDGES],
 )
-    requires { ⌜ Layable (now s) (now kept) ⌝ }
+    requires { ⌜ Layable (now s) (now kept) × Roles (now s) (now roles) ⌝ }
     requires { ⌜ ReadsReady (now s) (now rows) (now lens) count (now «vertex_reads») (now «arc_reads») ⌝ }
     requires { ⌜ (length (now from) ≡ mostEdges) × (length (now to) ≡ mostEdges) × (length (now full) ≡ mostEdges) × AtBase (now mark) ⌝ }
     ensures { λ _. ⌜ Flowed (now (s .entry)) (now (from .exit)) (now (to .exit)) (now (mark .exit)) (now (full .exit)) ⌝ }
 {
-    let n = wide(s[Graph::AT_VERTICES]);
-    let m = be16(s, Graph::AT_ARCS);
+    let n = vertex_count(s);
+    let m = arc_count(s);
     let plain = 3 * n + m;
     let mut cost = [0u64; EDGES];
     let mut live = [false; NODES];
@@ -274,6 +279,7 @@ fn flow(
     let mut deficit = [0u64; NODES];
     lay_network(
         s,
+        roles,
         kept,
         rows,
         lens,
@@ -307,21 +313,21 @@ fn flow(
 // Builds and writes the answer for a graph that a cover exists for; gives its length.
 fn answer(
     s: &[u8],
-    reached: &[bool; Graph::MAX_VERTICES],
-    reaching: &[bool; Graph::MAX_VERTICES],
+    roles: &[u8; Graph::ROOM_VERTICES],
+    reached: &[bool; Graph::ROOM_VERTICES],
+    reaching: &[bool; Graph::ROOM_VERTICES],
     out: &mut [u8],
 ) -> usize
-    requires { ⌜ Reachable (now s) (now reached) (now reaching) × Coverable (graphOf (now s)) × (graphVerdict (now s) .number ≡ 0) ⌝ }
-    requires { ⌜ longestAnswer ≤ length (now out) ⌝ }
+    requires { ⌜ Reachable (now s) (now reached) (now reaching) × Roles (now s) (now roles) × Coverable (graphOf (now s)) × (graphVerdict (now s) .number ≡ 0) ⌝ }
+    requires { ⌜ longestAnswer (now s) ≤ length (now out) ⌝ }
     ensures { λ r. ⌜ Answered (now (s .entry)) (now (out .entry)) (now (out .exit)) r ⌝ }
 {
-    let n = wide(s[Graph::AT_VERTICES]);
-    let mut kept = [false; Graph::MAX_VERTICES];
+    let mut kept = [false; Graph::ROOM_VERTICES];
     keep_useful(s, reached, reaching, &mut kept);
     let mut rows = [[0u8; ROW]; ROWS];
     let mut lens = [0usize; ROWS];
-    let mut vertex_reads = [0usize; Graph::MAX_VERTICES];
-    let mut arc_reads = [0usize; Graph::MAX_ARCS];
+    let mut vertex_reads = [0usize; Graph::ROOM_VERTICES];
+    let mut arc_reads = [0usize; Graph::ROOM_ARCS];
     let count = prepare_table(s, &mut rows, &mut lens, &mut vertex_reads, &mut arc_reads);
     let mut from = [0usize; EDGES];
     let mut to = [0usize; EDGES];
@@ -329,6 +335,7 @@ fn answer(
     let mut full = [0u64; EDGES];
     flow(
         s,
+        roles,
         &kept,
         &rows,
         &lens,
@@ -340,8 +347,8 @@ fn answer(
         &mut mark,
         &mut full,
     );
-    let mut into = [0u64; Graph::MAX_VERTICES];
-    let mut outof = [0u64; Graph::MAX_VERTICES];
+    let mut into = [0u64; Graph::ROOM_VERTICES];
+    let mut outof = [0u64; Graph::ROOM_VERTICES];
     final_marks(s, reached, reaching, &mark, &mut into, &mut outof);
     let price = final_price(s, &full, &arc_reads);
     let mut paths = [[0u8; ROW]; EDGES];
@@ -360,8 +367,8 @@ fn answer(
         &mut weights,
     );
     write_answer(
+        s,
         out,
-        n,
         price,
         &into,
         &outof,
@@ -373,13 +380,14 @@ fn answer(
 }
 
 // The refusal, once the graph reads: what is lacking, 8 where an item lies on no path, then 9 where the output has too little room.
-fn first_refusal(number: usize, place: usize, room: usize) -> Verdict
-    ensures { λ r. ⌜ r ≡ then (refusal number place) (cond (ltb room roomAsked) (refusal 9 0) nothingRefused) ⌝ }
+fn first_refusal(s: &[u8], number: usize, place: usize, room: usize) -> Verdict
+    ensures { λ r. ⌜ r ≡ then (refusal number place) (cond (ltb room (roomAsked (now (s .entry)))) (refusal 9 0) nothingRefused) ⌝ }
 {
+    let asked = longest_answer(s);
     if number != 0 {
         return Verdict::new(number, place);
     }
-    if room < Answer::LONGEST {
+    if room < asked {
         return Verdict::new(9, 0);
     }
     Verdict::new(0, 0)
@@ -397,12 +405,13 @@ pub fn build(graph: &[u8], out: &mut [u8]) -> Built
             written: 0,
         };
     }
-    let mut reached = [false; Graph::MAX_VERTICES];
-    let mut reaching = [false; Graph::MAX_VERTICES];
-    reach_from_starts(graph, &mut reached);
-    reach_ends(graph, &mut reaching);
+    let roles = roles(graph);
+    let mut reached = [false; Graph::ROOM_VERTICES];
+    let mut reaching = [false; Graph::ROOM_VERTICES];
+    reach_from_starts(graph, &roles, &mut reached);
+    reach_ends(graph, &roles, &mut reaching);
     let lacking = first_lacking(graph, &reached, &reaching);
-    let refused = first_refusal(lacking.number, lacking.place, out.len());
+    let refused = first_refusal(graph, lacking.number, lacking.place, out.len());
     if refused.number != 0 {
         return Built {
             number: refused.number,
@@ -410,7 +419,7 @@ pub fn build(graph: &[u8], out: &mut [u8]) -> Built
             written: 0,
         };
     }
-    let written = answer(graph, &reached, &reaching, out);
+    let written = answer(graph, &roles, &reached, &reaching, out);
     Built {
         number: 0,
         place: 0,

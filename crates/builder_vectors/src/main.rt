@@ -24,7 +24,7 @@ fn print_built(graph: &[u8]) {
     let checked = check(graph, &out[..written]);
     records::print_first(built.number);
     records::print_next(built.place);
-    records::print_next(stated_price(&out));
+    records::print_next(stated_price(graph, &out));
     records::print_next(some(written));
     records::print_next(checked.number);
 }

@@ -1,6 +1,6 @@
 -- What an accepted answer is, condition by condition: the verdict's number is 0 exactly where each test of numbers 1 to 22 passes, and then the place is 0 too.
 -- Soundness reads the conditions off an accepted answer; completeness shows them of the answer that it writes.
-use Prim.Native.Nat.{ℕ, zero, suc, _+_, _*_, _≤_}
+use Prim.Native.Nat.{ℕ, zero, suc, _+_, _≤_}
 use native.Mathlib.Omega.{arith}
 use mathlib.Core.Path.{_≡_, refl, ap, _∙_}
 use mathlib.Core.List.{List, [], _∷_}

@@ -22,11 +22,12 @@ use Rattle.forms.specs.GraphOf.{graphOf, arcsOf, arcItem}
 use Rattle.forms.specs.GraphReads.{Reads}
 use Rattle.forms.specs.Layout.{maxWeight, maxPathLength}
 use Rattle.forms.specs.Limits.{roomVertices, roomArcs, roomReads, maxOpening, maxCost}
-use Rattle.checker.specs.Tallies.{readOf, ReadsMet, TotalsFit, PathWalked, pathHeadFault, PathHead, Recorded, PathRead, NothingTallied, PathsRead}
+use Rattle.tally.specs.Tally.{readOf, ReadsMet, TotalsFit, PathWalked}
+use Rattle.checker.specs.Tallies.{pathHeadFault, PathHead, Recorded, PathRead, NothingTallied, PathsRead}
 use Rattle.forms.proofs.LayoutLaws.{bytes-few}
 use Rattle.forms.proofs.PartLaws.{part-none, part-length}
 use Rattle.certify.proofs.CertifyLawsCount.{same-at}
-use Rattle.checker.proofs.AnswerWalk.{path-length-room, weight-low, through-few}
+use Rattle.tally.proofs.PathWalkLaws.{path-length-room, weight-low, through-few}
 
 -- the head of a record: a law for each way through `path_head_fault`
 module _ (s t : List ℕ) (at copies : ℕ) where

@@ -41,7 +41,7 @@ use Rattle.forms.proofs.GraphFacts.{graph-well-formed, graph-costs-hold, graph-
 use Rattle.forms.proofs.GraphRange.{vertices-length, demands-low, costs-low}
 use Rattle.checker.proofs.Encoding
 use Rattle.checker.proofs.Encoding.{record-weight, record-length, record-path, record-end, record-split}
-use Rattle.checker.proofs.AnswerWalk.{path-length-room, weight-low}
+use Rattle.tally.proofs.PathWalkLaws.{path-length-room, weight-low}
 use Rattle.checker.proofs.AnswerPaths.{mostPrice}
 use Rattle.checker.proofs.Inside.{all-below, path-inside}
 use Rattle.checker.proofs.MarksAgree.{slacks-agree, bound-agrees}

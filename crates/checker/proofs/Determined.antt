@@ -1,6 +1,6 @@
 -- Each public call's promise determines its result: any two results allowed are equal. And the numbers that can come, and the place where nothing is refused.
 -- "Each public call's promise determines number, place and all bytes lent to it, for each input, refused or not"
-use Prim.Native.Nat.{ℕ, zero, suc, _+_, _*_, _≤_}
+use Prim.Native.Nat.{ℕ, zero, suc, _+_, _≤_}
 use native.Mathlib.Omega.{arith}
 use mathlib.Core.Path.{_≡_, refl, sym, ap, _∙_}
 use mathlib.Core.List.{List, [], _∷_}

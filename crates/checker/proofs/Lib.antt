@@ -4,8 +4,6 @@ pub mod RecordLaws
 pub mod ReadLaws
 pub mod GraphReads
 pub mod AnswerLaws
-pub mod AnswerReads
-pub mod AnswerWalk
 pub mod AnswerPaths
 pub mod CertifyLawsVerdict
 pub mod CertifyLawsCheck

@@ -1,6 +1,6 @@
 -- Document 01, numbers 11 to 22, stated plainly: what an accepted answer form is, condition by condition. That the check's number is 0 exactly here is proved
 -- in proofs/Accepted.
-use Prim.Native.Nat.{ℕ, zero, suc, _+_, _*_, _≤_}
+use Prim.Native.Nat.{ℕ, zero, suc, _+_, _≤_}
 use mathlib.Core.Path.{_≡_}
 use mathlib.Core.List.{List, []}
 use lib.Dec.{T}

@@ -1,6 +1,6 @@
 -- Document 01, numbers 19 to 22, the check as a whole, and the hand-out of a path: "The graph is read wholly first. .. the checker gives 11 to 18
 -- as the answer is read, then 19, 20, 21, 22 in that order, and 23 after 22."
-use Prim.Native.Nat.{ℕ, zero, suc, _+_, _*_}
+use Prim.Native.Nat.{ℕ, zero, suc, _+_}
 use mathlib.Core.List.{List, [], _∷_}
 use mathlib.Core.Bool.{Bool, cond, not, _&&_}
 use lib.Dec.{ltb, leb, eqb}

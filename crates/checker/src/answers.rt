@@ -1,16 +1,10 @@
 // Reading the answer form beside a graph form that reads: numbers 11 to 18.
 use forms::Answer;
-use forms::Found;
 use forms::Graph;
 use forms::Verdict;
-use forms::arcs::find_arc;
-use forms::bytes::wide;
 use forms::fields::answer_length_word;
 use forms::fields::answer_version;
-use forms::fields::arc_cost;
-use forms::fields::first_arc_at;
 use forms::fields::first_path_at;
-use forms::fields::first_read_at;
 use forms::fields::in_mark_at;
 use forms::fields::mark_bits;
 use forms::fields::mark_parts;
@@ -20,35 +14,27 @@ use forms::fields::path_end;
 use forms::fields::path_length;
 use forms::fields::path_vertices_at;
 use forms::fields::path_weight;
-use forms::fields::read_count;
-use forms::fields::read_end;
-use forms::fields::read_length;
-use forms::fields::read_vertices_at;
-use forms::fields::vertex_count;
 use forms::layout::answer_version_of;
 use forms::layout::max_path_length;
 use forms::layout::max_paths;
 use forms::layout::max_weight;
-use forms::roles::is_end;
-use forms::roles::is_start;
+use tally::mark_reads;
+use tally::walk_path;
 ghost use mathlib.Core.Path.{_≡_};
 ghost use Prim.Native.Nat.{_+_, _*_, _<_, _≤_};
-ghost use mathlib.Core.List.{_∷_};
 ghost use lib.ListN.{length};
-ghost use mathlib.Core.Bool.{_||_};
-ghost use Rattle.mathematics.specs.Lists.{holds, Rising};
 ghost use Rattle.forms.specs.AnswerFaults.{answerHeaderVerdict, markFault, marksVerdict, listBefore};
-ghost use Rattle.forms.specs.AnswerForm.{inMarkAt, markParts, markPartLength, firstPathAt};
+ghost use Rattle.forms.specs.AnswerForm.{pathCount, inMarkAt, markParts, markPartLength, firstPathAt};
 ghost use Rattle.forms.specs.ArcTable.{ArcTable};
 ghost use Rattle.forms.specs.Roles.{Roles};
 ghost use Rattle.forms.specs.Bytes.{part};
 ghost use Rattle.forms.specs.GraphFaults.{nothingRefused};
-ghost use Rattle.forms.specs.GraphForm.{headerLength, vertexCount};
+ghost use Rattle.forms.specs.GraphForm.{headerLength};
 ghost use Rattle.forms.specs.GraphReads.{Reads};
 ghost use Rattle.forms.specs.Layout.{maxWeight};
 ghost use Rattle.forms.specs.Limits.{roomVertices, roomReads};
-ghost use Rattle.checker.specs.Tallies.{ReadsMet, TotalsFit, WalkTallied, PathWalked, goesOnTo, pathHeadFault, PathHead, PathRead, NothingTallied, PathsRead};
-ghost use Rattle.certify.specs.Growth.{onward};
+ghost use Rattle.tally.specs.Tally.{TotalsFit};
+ghost use Rattle.checker.specs.Tallies.{pathHeadFault, PathHead, PathRead, NothingTallied, PathsRead};
 
 // What is wrong with the header: 11, 12 or 13.
 pub fn header_verdict(s: &[u8], t: &[u8]) -> Verdict
@@ -145,144 +131,6 @@ fn comes_before(t: &[u8], a: usize, la: usize, b: usize, lb: usize) -> bool
         i += 1;
     }
     i < lb
-}
-
-// Whether the lb bytes of t at b hold the la bytes of s at a consecutively. Those of t rise, so a read that is left after its first vertex stands nowhere else.
-fn holds_read(s: &[u8], a: usize, la: usize, t: &[u8], b: usize, lb: usize) -> bool
-    requires { ⌜ (a + la ≤ length (now s)) × (b + lb ≤ length (now t)) × (0 < la) × Rising (part (now t) b lb) ⌝ }
-    ensures { λ r. ⌜ r ≡ holds (part (now (t .entry)) b lb) (part (now (s .entry)) a la) ⌝ }
-{
-    // How many of the read's vertices were met, one right behind the other.
-    let mut i = 0;
-    let mut j = 0;
-    while j < lb {
-        let x = s[a + i];
-        let y = t[b + j];
-        j += 1;
-        if x == y {
-            i += 1;
-            if i == la {
-                return true;
-            }
-            continue;
-        }
-        if 0 < i {
-            return false;
-        }
-    }
-    false
-}
-
-// Whether a read that was met by a path before, or not, is met now: the path is looked at only where the read was not.
-fn met_now(met: bool, s: &[u8], a: usize, la: usize, t: &[u8], b: usize, lb: usize) -> bool
-    requires { ⌜ (a + la ≤ length (now s)) × (b + lb ≤ length (now t)) × (0 < la) × Rising (part (now t) b lb) ⌝ }
-    ensures { λ r. ⌜ r ≡ (met || holds (part (now (t .entry)) b lb) (part (now (s .entry)) a la)) ⌝ }
-{
-    if met {
-        return true;
-    }
-    holds_read(s, a, la, t, b, lb)
-}
-
-// Marks the reads that the path of lb vertices at b holds. Reads are walked by their records.
-fn mark_reads(s: &[u8], t: &[u8], b: usize, lb: usize, met: &mut [bool; Graph::ROOM_READS])
-    requires { ⌜ Reads (now s) × (b + lb ≤ length (now t)) × (length (now met) ≡ roomReads) × Rising (part (now t) b lb) ⌝ }
-    ensures { λ r. ⌜ ReadsMet (now (s .entry)) (part (now (t .entry)) b lb) (now (met .entry)) (now (met .exit)) ⌝ }
-{
-    let count = read_count(s);
-    let mut at = first_read_at(s);
-    let mut r = 0;
-    while r < count {
-        let la = read_length(s, at);
-        met[r] = met_now(met[r], s, read_vertices_at(s, at), la, t, b, lb);
-        at = read_end(s, at);
-        r += 1;
-    }
-}
-
-// What walking along a path gives: whether it is a path of the graph, and the costs of its arcs.
-struct Walk {
-    ok: bool,
-    cost: usize,
-}
-
-// Walks on from vertex u, which is counted already, along lb vertices at b: one look for an arc with each.
-fn walk_on(
-    s: &[u8],
-    first: &[u16; Graph::ROOM_VERTICES + 1],
-    roles: &[u8; Graph::ROOM_VERTICES],
-    t: &[u8],
-    b: usize,
-    lb: usize,
-    from: usize,
-    weight: usize,
-    vertex_totals: &mut [usize; Graph::ROOM_VERTICES],
-    arc_totals: &mut [usize; Graph::ROOM_ARCS],
-) -> Walk
-    requires { ⌜ Reads (now s) × ArcTable (now s) (now first) × Roles (now s) (now roles) × (from < vertexCount (now s)) ⌝ }
-    requires { ⌜ (lb + 1 ≤ roomVertices) × (b + lb ≤ length (now t)) × TotalsFit (now s) (now «vertex_totals») (now «arc_totals») weight (2 * roomVertices + 1) ⌝ }
-    ensures { λ r. ⌜ WalkTallied (now (s .entry)) (goesOnTo (now (s .entry)) from (part (now (t .entry)) b lb)) (onward from (part (now (t .entry)) b lb)) (from ∷ part (now (t .entry)) b lb) weight (now («vertex_totals» .entry)) (now («vertex_totals» .exit)) (now («arc_totals» .entry)) (now («arc_totals» .exit)) (r .ok) (r .cost) ⌝ }
-{
-    let n = vertex_count(s);
-    let base = first_arc_at(s);
-    let mut u = from;
-    let mut cost = 0;
-    let mut j = 0;
-    while j < lb {
-        let v = wide(t[b + j]);
-        if n <= v {
-            return Walk { ok: false, cost: 0 };
-        }
-        let found = find_arc(s, first, u, v);
-        let Found::At(k) = found else {
-            return Walk { ok: false, cost: 0 };
-        };
-        arc_totals[k] = arc_totals[k] + weight;
-        vertex_totals[v] = vertex_totals[v] + weight;
-        cost += arc_cost(s, base, k);
-        u = v;
-        j += 1;
-    }
-    let ok = is_end(s, roles, u);
-    Walk { ok, cost }
-}
-
-// Walks along the path of lb vertices at b, whose weight is added to the totals of the vertices and arcs on it.
-fn walk_path(
-    s: &[u8],
-    first: &[u16; Graph::ROOM_VERTICES + 1],
-    roles: &[u8; Graph::ROOM_VERTICES],
-    t: &[u8],
-    b: usize,
-    lb: usize,
-    weight: usize,
-    vertex_totals: &mut [usize; Graph::ROOM_VERTICES],
-    arc_totals: &mut [usize; Graph::ROOM_ARCS],
-) -> Walk
-    requires { ⌜ Reads (now s) × ArcTable (now s) (now first) × Roles (now s) (now roles) × (1 ≤ lb) × (lb ≤ roomVertices) ⌝ }
-    requires { ⌜ (b + lb ≤ length (now t)) × TotalsFit (now s) (now «vertex_totals») (now «arc_totals») weight (2 * roomVertices) ⌝ }
-    ensures { λ r. ⌜ PathWalked (now (s .entry)) (part (now (t .entry)) b lb) weight (now («vertex_totals» .entry)) (now («vertex_totals» .exit)) (now («arc_totals» .entry)) (now («arc_totals» .exit)) (r .ok) (r .cost) ⌝ }
-{
-    let u = wide(t[b]);
-    if vertex_count(s) <= u {
-        return Walk { ok: false, cost: 0 };
-    }
-    if !is_start(s, roles, u) {
-        return Walk { ok: false, cost: 0 };
-    }
-    vertex_totals[u] = vertex_totals[u] + weight;
-    walk_on(
-        s,
-        first,
-        roles,
-        t,
-        b + 1,
-        lb - 1,
-        u,
-        weight,
-        vertex_totals,
-        arc_totals,
-    )
 }
 
 // What is wrong with a path's record, so far as it can be told without the graph: 15, 16, 15, 17 or nothing.
@@ -385,16 +233,17 @@ pub fn read_paths(
     first: &[u16; Graph::ROOM_VERTICES + 1],
     roles: &[u8; Graph::ROOM_VERTICES],
     t: &[u8],
+    paths: usize,
     vertex_totals: &mut [usize; Graph::ROOM_VERTICES],
     arc_totals: &mut [usize; Graph::ROOM_ARCS],
     met: &mut [bool; Graph::ROOM_READS],
 ) -> Tally
-    requires { ⌜ Reads (now s) × ArcTable (now s) (now first) × Roles (now s) (now roles) × (firstPathAt (now s) ≤ length (now t)) ⌝ }
+    requires { ⌜ Reads (now s) × ArcTable (now s) (now first) × Roles (now s) (now roles) × (firstPathAt (now s) ≤ length (now t)) × (paths ≡ pathCount (now t)) ⌝ }
     requires { ⌜ NothingTallied (now «vertex_totals») (now «arc_totals») (now met) ⌝ }
     ensures { λ r. ⌜ PathsRead (now (s .entry)) (now (t .entry)) (now («vertex_totals» .exit)) (now («arc_totals» .exit)) (now (met .exit)) (r .number) (r .place) (r .price) ⌝ }
 {
     let opening = opening_price(s);
-    let mut left = path_count(t);
+    let mut left = paths;
     let mut at = first_path_at(s);
     let mut p = 0;
     let mut lp = 0;

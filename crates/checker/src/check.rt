@@ -6,6 +6,7 @@ use crate::reader::read_graph;
 use certify::bound_of;
 use certify::slacks_verdict;
 use certify::unmet_verdict;
+use forms::Answer;
 use forms::Graph;
 use forms::Verdict;
 use forms::arcs::first_arcs;
@@ -14,7 +15,6 @@ use forms::fields::path_count;
 use forms::fields::path_end;
 use forms::fields::path_length;
 use forms::fields::path_vertices_at;
-use forms::fields::stated_price;
 use forms::roles::roles;
 ghost use mathlib.Core.Path.{_≡_};
 ghost use mathlib.Core.List.{[]};
@@ -44,16 +44,16 @@ fn certificate_verdict(
     arc_totals: &[usize; Graph::ROOM_ARCS],
     met: &[bool; Graph::ROOM_READS],
     price: usize,
+    stated: usize,
 ) -> Verdict
     requires { ⌜ Reads (now s) × ArcTable (now s) (now first) × Roles (now s) (now roles) × MarksStand (now s) (now t) ⌝ }
-    requires { ⌜ Tallied (now s) (now t) (now «vertex_totals») (now «arc_totals») (now met) price ⌝ }
+    requires { ⌜ Tallied (now s) (now t) (now «vertex_totals») (now «arc_totals») (now met) price × (stated ≡ statedPrice (now s) (now t)) ⌝ }
     ensures { λ r. ⌜ r ≡ certificateVerdict whole (graphOf (now (s .entry))) (coverOf (now (s .entry)) (now (t .entry))) (pos (statedPrice (now (s .entry)) (now (t .entry)))) (answerMarks (now (s .entry)) (now (t .entry))) ⌝ }
 {
     let unmet = unmet_verdict(s, vertex_totals, arc_totals, met);
     if unmet.number != 0 {
         return unmet;
     }
-    let stated = stated_price(s, t);
     if price != stated {
         return Verdict::new(20, 0);
     }
@@ -72,6 +72,7 @@ fn paths_verdict(s: &[u8], t: &[u8]) -> Verdict
     requires { ⌜ Reads (now s) × MarksStand (now s) (now t) ⌝ }
     ensures { λ r. ⌜ r ≡ pathsVerdict (now (s .entry)) (now (t .entry)) (pathCount (now (t .entry))) (firstPathAt (now (s .entry))) [] 0 (certificateVerdict whole (graphOf (now (s .entry))) (coverOf (now (s .entry)) (now (t .entry))) (pos (statedPrice (now (s .entry)) (now (t .entry)))) (answerMarks (now (s .entry)) (now (t .entry)))) ⌝ }
 {
+    let answer = Answer::of(s, t);
     let first = first_arcs(s);
     let roles = roles(s);
     let mut vertex_totals = [0usize; Graph::ROOM_VERTICES];
@@ -82,6 +83,7 @@ fn paths_verdict(s: &[u8], t: &[u8]) -> Verdict
         &first,
         &roles,
         t,
+        answer.paths,
         &mut vertex_totals,
         &mut arc_totals,
         &mut met,
@@ -98,6 +100,7 @@ fn paths_verdict(s: &[u8], t: &[u8]) -> Verdict
         &arc_totals,
         &met,
         tally.price,
+        answer.price,
     )
 }
 

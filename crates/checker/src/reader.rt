@@ -8,7 +8,6 @@ use forms::arcs::first_arcs;
 use forms::bytes::wide;
 use forms::fields::arc_at;
 use forms::fields::arc_cost;
-use forms::fields::arc_count;
 use forms::fields::arc_count_at;
 use forms::fields::arc_demand;
 use forms::fields::arc_ends;
@@ -19,7 +18,6 @@ use forms::fields::first_read_at;
 use forms::fields::header_length;
 use forms::fields::length_word;
 use forms::fields::opening_price_at;
-use forms::fields::read_count;
 use forms::fields::read_count_at;
 use forms::fields::read_end;
 use forms::fields::read_length;
@@ -264,31 +262,31 @@ fn reads_verdict(
     Verdict::new(0, 0)
 }
 
-// What the arcs, then the reads of a form with n vertices give, once its header is right.
-fn arcs_then_reads(s: &[u8], n: usize) -> Verdict
-    requires { ⌜ HeaderRight (now s) × (n ≡ vertexCount (now s)) ⌝ }
+// What the arcs, then the reads of a form give, once its header is right.
+fn arcs_then_reads(s: &[u8], header: Header) -> Verdict
+    requires { ⌜ HeaderRight (now s) × (header .vertices ≡ vertexCount (now s)) × (header .arcs ≡ arcCount (now s)) × (header .reads ≡ readCount (now s)) ⌝ }
     ensures { λ r. ⌜ r ≡ then (arcsVerdict (now (s .entry))) (readsVerdict (now (s .entry)) (readCount (now (s .entry))) (firstReadAt (now (s .entry)))) ⌝ }
 {
-    let arcs = arcs_verdict(s, n, arc_count(s));
+    let arcs = arcs_verdict(s, header.vertices, header.arcs);
     if arcs.number != 0 {
         return arcs;
     }
     let first = first_arcs(s);
-    reads_verdict(s, &first, read_count(s), first_read_at(s))
+    reads_verdict(s, &first, header.reads, first_read_at(s))
 }
 
 // Document 01, "Numbers returned when an input is turned down", 1 to 7: what reading the graph form gives.
 pub fn read_graph(s: &[u8]) -> Verdict
     ensures { λ r. ⌜ r ≡ graphVerdict (now (s .entry)) ⌝ }
 {
-    let header = header_verdict(s);
-    if header.number != 0 {
-        return header;
+    let verdict = header_verdict(s);
+    if verdict.number != 0 {
+        return verdict;
     }
-    let n = vertex_count(s);
-    let vertices = vertices_verdict(s, n);
+    let header = Header::of(s);
+    let vertices = vertices_verdict(s, header.vertices);
     if vertices.number != 0 {
         return vertices;
     }
-    arcs_then_reads(s, n)
+    arcs_then_reads(s, header)
 }

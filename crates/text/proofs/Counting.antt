@@ -47,8 +47,8 @@ pub count-start : (n : ℕ) → n < 10 ^ 20 → DigitsCounted n 1 n
 unfolding decimal
 count-start n h = record { places = 20; even = omega arith; some = omega arith; below = h; whole = refl }
 
-pub count-turn : {n count rest : ℕ} → 9 < rest → DigitsCounted n count rest → DigitsCounted n (count + 1) (rest / 10)
-count-turn {n} {count} {rest} l h =
+pub count-turn : {n count rest : ℕ} → DigitsCounted n count rest → 9 < rest → DigitsCounted n (count + 1) (rest / 10)
+count-turn {n} {count} {rest} h l =
     let less = one-digit-less (h .places) rest l (h .below) in
     let e : h .places ≡ suc (h .places - 1) = omega (arith, h .some) in
     record {
@@ -59,7 +59,7 @@ count-turn {n} {count} {rest} l h =
       whole = omega (arith, h .whole, ap (λ k. length (digitsBefore k rest [])) e, digits-more (h .places - 1) rest l);
     }
 
-pub count-end : {n count rest : ℕ} → rest ≤ 9 → DigitsCounted n count rest → count ≡ length (decimal n)
-count-end {n} {count} {rest} l h =
+pub count-end : {n count rest : ℕ} → DigitsCounted n count rest → rest ≤ 9 → count ≡ length (decimal n)
+count-end {n} {count} {rest} h l =
     let e : h .places ≡ suc (h .places - 1) = omega (arith, h .some) in
     omega (arith, h .whole, ap (λ k. length (digitsBefore k rest [])) e, digits-one (h .places - 1) rest l)

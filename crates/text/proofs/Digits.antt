@@ -52,10 +52,10 @@ digits-start n digits e h =
       whole = ap (digitsBefore 20 n) (drop-of-length-le digits {i = 20} (omega arith));
     }
 
-pub digits-turn : {n first rest : ℕ} {digits : List ℕ} → 9 < rest → DigitsLeft n first rest digits →
+pub digits-turn : {n first rest : ℕ} {digits : List ℕ} → DigitsLeft n first rest digits → 9 < rest →
     DigitsLeft n (first - 1) (rest / 10) (set digits (first - 1) (48 + rest % 10))
 unfolding digitsBefore
-digits-turn {n} {first} {rest} {digits} l h =
+digits-turn {n} {first} {rest} {digits} h l =
     let e : first ≡ suc (first - 1) = omega (arith, h .some) in
     let less = one-digit-less first rest l (h .below) in
     let inside : first - 1 < length digits = omega (arith, h .long, h .few, h .some) in
@@ -70,10 +70,10 @@ digits-turn {n} {first} {rest} {digits} l h =
     }
 
 -- and where one digit is left, it is stored and the text of n is done
-pub digits-end : {n first rest : ℕ} {digits : List ℕ} → rest ≤ 9 → DigitsLeft n first rest digits →
+pub digits-end : {n first rest : ℕ} {digits : List ℕ} → DigitsLeft n first rest digits → rest ≤ 9 →
     take (20 - (first - 1)) (drop (first - 1) (set digits (first - 1) (48 + rest))) ≡ decimal n
 unfolding digitsBefore
-digits-end {n} {first} {rest} {digits} l h =
+digits-end {n} {first} {rest} {digits} h l =
     let e : first ≡ suc (first - 1) = omega (arith, h .some) in
     let inside : first - 1 < length digits = omega (arith, h .long, h .few, h .some) in
     let small : rest < 10 = omega arith in

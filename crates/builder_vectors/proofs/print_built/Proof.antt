@@ -1,10 +1,18 @@
 -- `builder_vectors::print_built` is safe: the bytes that the builder says it wrote are within what was lent. Assumes nothing.
+use Prim.Native.Nat.{ℕ, _≤_}
 use native.Mathlib.Omega.{arith}
+use mathlib.Core.List.{List}
 use mathlib.Core.Path.{sym}
 use lib.Seq.{length-take-le}
+use Rattle.forms.specs.AnswerForm.{answerHeaderLength}
+use Rattle.forms.proofs.LayoutLaws.{parts-few}
 use borrow.Author.Needs.{needs}
 use Rattle.builder_vectors.proofs.print_built.Statement.{statement}
 use Rattle.builder_vectors.proofs.print_built.Tie as tie
+
+-- an output of so many bytes has room for a price of either kind
+price-inside : (s : List ℕ) {n : ℕ} → 23 ≤ n → answerHeaderLength s ≤ n
+price-inside s h = omega (arith, parts-few s)
 
 slice-aggregate-build : tie.Need-slice-aggregate-build
 slice-aggregate-build c = search needs
@@ -33,7 +41,7 @@ slice-aggregate-stated-price : tie.Need-slice-aggregate-stated-price
 slice-aggregate-stated-price c = search needs
 
 stated-price-requires : tie.Need-stated-price-requires
-stated-price-requires c κs = search needs
+stated-price-requires c κs = price-inside _ (search needs)
 
 print-next-requires-2 : tie.Need-print-next-requires-2
 print-next-requires-2 c κs = search needs

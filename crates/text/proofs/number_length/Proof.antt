@@ -23,10 +23,10 @@ loop-less : tie.Need-loop-less Inv-loop μ-loop
 loop-less c = omega arith
 
 loop-again : tie.Need-loop-again Inv-loop μ-loop
-loop-again c = count-turn (c .loop-test .taken) (c .before .loop .inv)
+loop-again c = count-turn (c .before .loop .inv) (omega arith)
 
 returns : tie.Need-returns Inv-loop μ-loop
-returns c = (count-end (c .loop-test .left) (c .before .loop .inv), omega arith)
+returns c = (count-end (c .before .loop .inv) (omega arith), omega arith)
 
 pub number-length-spec : {M : Type 1} → statement M
 number-length-spec =

@@ -32,7 +32,7 @@ loop-less : tie.Need-loop-less Inv-loop μ-loop
 loop-less c = omega arith
 
 loop-again : tie.Need-loop-again Inv-loop μ-loop
-loop-again c = digits-turn (c .loop-test .taken) (c .before .loop .inv)
+loop-again c = digits-turn (c .before .loop .inv) (omega arith)
 
 sub-first-2 : tie.Need-sub-first-2 Inv-loop μ-loop
 sub-first-2 c = omega arith
@@ -57,14 +57,14 @@ part-put-text-end c = simp length-set (omega arith)
 
 put-text-requires : tie.Need-put-text-requires Inv-loop μ-loop
 put-text-requires c κs =
-    rw (digits-end (c .before .before .before .loop-test .left) (c .before .before .before .before .loop .inv)) (c .before .before .before .before .before .before .pre)
+    rw (digits-end (c .before .before .before .before .loop .inv) (omega arith)) (c .before .before .before .before .before .before .pre)
 
 same-length : tie.Need-same-length Inv-loop μ-loop
 same-length c = search needs
 
 returns : tie.Need-returns Inv-loop μ-loop
 returns c =
-    rw (digits-end (c .before .before .before .before .before .before .loop-test .left) (c .before .before .before .before .before .before .before .loop .inv)) at
+    rw (digits-end (c .before .before .before .before .before .before .before .loop .inv) (omega arith)) at
     (c .before .before .put-text .ensures)
 
 pub put-number-spec : {M : Type 1} → statement M

@@ -3,7 +3,7 @@ use Rattle.builder.proofs.FinishLawsPromise.{promise-unread, reads-then
 use mathlib.Core.Bool.{Bool, false}
 use lib.ListN.{length-replicate}
 use borrow.Author.Needs.{needs}
-use Rattle.forms.specs.Limits.{maxVertices}
+use Rattle.forms.specs.Limits.{roomVertices}
 use Rattle.builder.proofs.build.build.Statement.{statement}
 use Rattle.builder.proofs.build.build.Tie as tie
 
@@ -13,29 +13,32 @@ read-graph-requires c κs = search needs
 returns : tie.Need-returns
 returns c = promise-unread _ _ _ (c .before .before .read-graph .ensures) (c .if1 .taken)
 
+roles-requires : tie.Need-roles-requires
+roles-requires c κs = reads-then _ (c .before .before .before .before .before .args .out .now) _ (c .before .before .read-graph .ensures) (c .if1 .left)
+
 reach-from-starts-requires : tie.Need-reach-from-starts-requires
-reach-from-starts-requires c κs = (reads-then _ (c .before .before .before .before .before .before .args .out .now) _ (c .before .before .before .read-graph .ensures) (c .before .if1 .left), length-replicate {A = Bool} maxVertices false)
+reach-from-starts-requires c κs = (reads-then _ (c .before .before .before .before .before .before .before .before .args .out .now) _ (c .before .before .before .before .before .read-graph .ensures) (c .before .before .before .if1 .left), c .before .before .roles .ensures, length-replicate {A = Bool} roomVertices false)
 
 reach-ends-requires : tie.Need-reach-ends-requires
-reach-ends-requires c κs = (reads-then _ (c .before .before .before .before .before .before .before .before .args .out .now) _ (c .before .before .before .before .before .read-graph .ensures) (c .before .before .before .if1 .left), length-replicate {A = Bool} maxVertices false)
+reach-ends-requires c κs = (reads-then _ (c .before .before .before .before .before .before .before .before .before .before .before .args .out .now) _ (c .before .before .before .before .before .before .before .before .read-graph .ensures) (c .before .before .before .before .before .before .if1 .left), c .before .before .before .before .before .roles .ensures, length-replicate {A = Bool} roomVertices false)
 
 first-lacking-requires : tie.Need-first-lacking-requires
-first-lacking-requires c κs = record { reads = reads-then _ (c .before .before .before .before .before .before .before .before .before .before .before .args .out .now) _ (c .before .before .before .before .before .before .before .before .read-graph .ensures) (c .before .before .before .before .before .before .if1 .left); starts = c .before .before .before .before .reach-from-starts .ensures; ends = c .before .before .reach-ends .ensures }
+first-lacking-requires c κs = record { reads = reads-then _ (c .before .before .before .before .before .before .before .before .before .before .before .before .before .before .args .out .now) _ (c .before .before .before .before .before .before .before .before .before .before .before .read-graph .ensures) (c .before .before .before .before .before .before .before .before .before .if1 .left); starts = c .before .before .before .before .before .reach-from-starts .ensures; ends = c .before .before .reach-ends .ensures }
 
 first-refusal-requires : tie.Need-first-refusal-requires
 first-refusal-requires c κs = search needs
 
 returns-2 : tie.Need-returns-2
-returns-2 c = promise-refused _ _ _ (c .before .before .before .before .before .before .before .before .before .before .before .before .read-graph .ensures) (c .before .before .before .before .before .before .before .before .before .before .if1 .left) _ (c .before .before .before .first-lacking .ensures) _ (c .before .before .first-refusal .ensures) (c .if2 .taken)
+returns-2 c = promise-refused _ _ _ (c .before .before .before .before .before .before .before .before .before .before .before .before .before .before .before .read-graph .ensures) (c .before .before .before .before .before .before .before .before .before .before .before .before .before .if1 .left) _ (c .before .before .before .first-lacking .ensures) _ (c .before .before .first-refusal .ensures) (c .if2 .taken)
 
 answer-requires : tie.Need-answer-requires
-answer-requires c κs = let o = c .before .before .before .before .before .before .before .before .before .before .before .before .before .before .before .before .before .before .args .out .now in let e = c .before .before .before .before .before .before .before .before .before .before .before .before .before .before .before .read-graph .ensures in let z = c .before .before .before .before .before .before .before .before .before .before .before .before .before .if1 .left in let l = c .before .before .before .before .before .before .first-lacking .ensures in let f = c .before .before .before .before .before .first-refusal .ensures in let n = c .before .before .before .if2 .left in ((record { reads = reads-then _ o _ e z; starts = c .before .before .before .before .before .before .before .before .before .before .before .reach-from-starts .ensures; ends = c .before .before .before .before .before .before .before .before .before .reach-ends .ensures }, coverable-then _ o _ e z _ l _ f n, graph-reads _ o _ e z), room-then _ o _ e z _ l _ f n)
+answer-requires c κs = let o = c .before .before .before .before .before .before .before .before .before .before .before .before .before .before .before .before .before .before .before .before .before .before .args .out .now in let e = c .before .before .before .before .before .before .before .before .before .before .before .before .before .before .before .before .before .before .before .read-graph .ensures in let z = c .before .before .before .before .before .before .before .before .before .before .before .before .before .before .before .before .before .if1 .left in let l = c .before .before .before .before .before .before .before .first-lacking .ensures in let f = c .before .before .before .before .before .before .first-refusal .ensures in let n = c .before .before .before .before .if2 .left in ((record { reads = reads-then _ o _ e z; starts = c .before .before .before .before .before .before .before .before .before .before .before .before .before .reach-from-starts .ensures; ends = c .before .before .before .before .before .before .before .before .before .before .reach-ends .ensures }, c .before .before .before .before .before .before .before .before .before .before .before .before .before .before .before .before .roles .ensures, coverable-then _ o _ e z _ l _ f n, graph-reads _ o _ e z), room-then _ o _ e z _ l _ f n)
 
 same-length : tie.Need-same-length
 same-length c = search needs
 
 returns-3 : tie.Need-returns-3
-returns-3 c = promise-built _ _ _ (c .before .before .before .before .before .before .before .before .before .before .before .before .before .before .before .before .before .before .read-graph .ensures) (c .before .before .before .before .before .before .before .before .before .before .before .before .before .before .before .before .if1 .left) _ (c .before .before .before .before .before .before .before .before .before .first-lacking .ensures) _ (c .before .before .before .before .before .before .before .before .first-refusal .ensures) (c .before .before .before .before .before .before .if2 .left) _ _ (c .before .before .answer .ensures)
+returns-3 c = promise-built _ _ _ (c .before .before .before .before .before .before .before .before .before .before .before .before .before .before .before .before .before .before .before .before .before .before .read-graph .ensures) (c .before .before .before .before .before .before .before .before .before .before .before .before .before .before .before .before .before .before .before .before .if1 .left) _ (c .before .before .before .before .before .before .before .before .before .before .first-lacking .ensures) _ (c .before .before .before .before .before .before .before .before .before .first-refusal .ensures) (c .before .before .before .before .before .before .before .if2 .left) _ _ (c .before .before .answer .ensures)
 
 pub build-spec : {M : Type 1} → statement M
 build-spec =
@@ -43,6 +46,7 @@ build-spec =
     (tie.spec
     read-graph-requires
     returns
+    roles-requires
     reach-from-starts-requires
     reach-ends-requires
     first-lacking-requires

@@ -4,14 +4,11 @@ use borrow.Author.Needs.{needs}
 use Rattle.builder.proofs.build.flow.Statement.{statement}
 use Rattle.builder.proofs.build.flow.Tie as tie
 
-shared-slice-read-wide : tie.Need-shared-slice-read-wide
-shared-slice-read-wide c = search needs
+vertex-count-requires : tie.Need-vertex-count-requires
+vertex-count-requires c κs = search needs
 
-wide-requires : tie.Need-wide-requires
-wide-requires c κs = search needs
-
-be16-requires : tie.Need-be16-requires
-be16-requires c κs = search needs
+arc-count-requires : tie.Need-arc-count-requires
+arc-count-requires c κs = search needs
 
 mul-plain : tie.Need-mul-plain
 mul-plain c = search needs
@@ -20,7 +17,7 @@ add-plain : tie.Need-add-plain
 add-plain c = search needs
 
 lay-network-requires : tie.Need-lay-network-requires
-lay-network-requires c κs = let q = c .before .before .before .before .before .before .before .before .before .before .before .pre .1 .1 in (c .before .before .before .before .before .before .before .before .before .before .before .pre .0, (c .before .before .before .before .before .before .before .before .before .before .before .pre .1 .0, blank _ _ _ (q .0) (q .1) (q .2)))
+lay-network-requires c κs = let q = c .before .before .before .before .before .before .before .before .before .before .pre .1 .1 in (c .before .before .before .before .before .before .before .before .before .before .pre .0, (c .before .before .before .before .before .before .before .before .before .before .pre .1 .0, blank _ _ _ (q .0) (q .1) (q .2)))
 
 mul-carry : tie.Need-mul-carry
 mul-carry c = search needs
@@ -29,21 +26,20 @@ add-carry : tie.Need-add-carry
 add-carry c = search needs
 
 carry-requires : tie.Need-carry-requires
-carry-requires c κs = to-carry _ _ (c .before .before .before .before .before .before .before .before .before .before .before .before .before .before .before .before .before .before .before .before .pre .0) _ _ (c .before .before .before .before .before .before .before .before .before .before .before .before .before .before .before .before .before .wide .ensures .0) (c .before .before .before .before .before .before .before .before .before .before .before .before .before .before .before .before .be16 .ensures .0) _ _ _ _ _ _ _ (c .before .before .before .before .before .before .before .before .lay-network .ensures) _ (c .before .before .before .before .before .before .before .before .before .before .before .before .before .before .before .before .before .before .before .before .pre .1 .1 .3)
+carry-requires c κs = to-carry _ _ (c .before .before .before .before .before .before .before .before .before .before .before .before .before .before .before .before .before .before .before .pre .0 .0) _ _ (c .before .before .before .before .before .before .before .before .before .before .before .before .before .before .before .before .before .vertex-count .ensures .0) (c .before .before .before .before .before .before .before .before .before .before .before .before .before .before .before .before .arc-count .ensures .0) _ _ _ _ _ _ _ (c .before .before .before .before .before .before .before .before .lay-network .ensures) _ (c .before .before .before .before .before .before .before .before .before .before .before .before .before .before .before .before .before .before .before .pre .1 .1 .3)
 
 add-loads-requires : tie.Need-add-loads-requires
-add-loads-requires c κs = to-add _ _ (c .before .before .before .before .before .before .before .before .before .before .before .before .before .before .before .before .before .before .before .before .before .before .before .before .before .pre .0) _ _ (c .before .before .before .before .before .before .before .before .before .before .before .before .before .before .before .before .before .before .before .before .before .before .wide .ensures .0) (c .before .before .before .before .before .before .before .before .before .before .before .before .before .before .before .before .before .before .before .before .before .be16 .ensures .0) _ _ _ _ _ _ _ (c .before .before .before .before .before .before .before .before .before .before .before .before .before .lay-network .ensures) _ _ (c .before .before .before .before .carry .ensures .0) (c .before .before .before .before .carry .ensures .1 .0)
+add-loads-requires c κs = to-add _ _ (c .before .before .before .before .before .before .before .before .before .before .before .before .before .before .before .before .before .before .before .before .before .before .before .before .pre .0 .0) _ _ (c .before .before .before .before .before .before .before .before .before .before .before .before .before .before .before .before .before .before .before .before .before .before .vertex-count .ensures .0) (c .before .before .before .before .before .before .before .before .before .before .before .before .before .before .before .before .before .before .before .before .before .arc-count .ensures .0) _ _ _ _ _ _ _ (c .before .before .before .before .before .before .before .before .before .before .before .before .before .lay-network .ensures) _ _ (c .before .before .before .before .carry .ensures .0) (c .before .before .before .before .carry .ensures .1 .0)
 
 returns : tie.Need-returns
-returns c = flow-done _ _ (c .before .before .before .before .before .before .before .before .before .before .before .before .before .before .before .before .before .before .before .before .before .before .before .before .before .before .pre .0) _ _ (c .before .before .before .before .before .before .before .before .before .before .before .before .before .before .before .before .before .before .before .before .before .before .before .wide .ensures .0) (c .before .before .before .before .before .before .before .before .before .before .before .before .before .before .before .before .before .before .before .before .before .before .be16 .ensures .0) _ _ _ _ _ _ _ (c .before .before .before .before .before .before .before .before .before .before .before .before .before .before .lay-network .ensures) _ _ (c .before .before .before .before .before .carry .ensures .0) _ _ (c .add-loads .ensures)
+returns c = flow-done _ _ (c .before .before .before .before .before .before .before .before .before .before .before .before .before .before .before .before .before .before .before .before .before .before .before .before .before .pre .0 .0) _ _ (c .before .before .before .before .before .before .before .before .before .before .before .before .before .before .before .before .before .before .before .before .before .before .before .vertex-count .ensures .0) (c .before .before .before .before .before .before .before .before .before .before .before .before .before .before .before .before .before .before .before .before .before .before .arc-count .ensures .0) _ _ _ _ _ _ _ (c .before .before .before .before .before .before .before .before .before .before .before .before .before .before .lay-network .ensures) _ _ (c .before .before .before .before .before .carry .ensures .0) _ _ (c .add-loads .ensures)
 
 pub flow-spec : {M : Type 1} → statement M
 flow-spec =
     tie.close
     (tie.spec
-    shared-slice-read-wide
-    wide-requires
-    be16-requires
+    vertex-count-requires
+    arc-count-requires
     mul-plain
     add-plain
     lay-network-requires

@@ -5,20 +5,17 @@ use borrow.Author.Needs.{needs}
 use Rattle.builder.proofs.build.lay_network.Statement.{statement}
 use Rattle.builder.proofs.build.lay_network.Tie as tie
 
-shared-slice-read-wide : tie.Need-shared-slice-read-wide
-shared-slice-read-wide c = search needs
+vertex-count-requires : tie.Need-vertex-count-requires
+vertex-count-requires c κs = search needs
 
-wide-requires : tie.Need-wide-requires
-wide-requires c κs = search needs
-
-be16-requires : tie.Need-be16-requires
-be16-requires c κs = search needs
+arc-count-requires : tie.Need-arc-count-requires
+arc-count-requires c κs = search needs
 
 lay-edges-requires : tie.Need-lay-edges-requires
-lay-edges-requires c κs = let Y = c .before .before .before .before .before .before .before .pre .0 in let K = c .before .before .before .before .before .before .before .pre .1 .1 in ((Y .reads, Y .marked), (c .before .before .before .before .before .before .before .pre .1 .0 .table, edges-none _ _ _ _ (K .from-long) (K .to-long) (K .cost-long)))
+lay-edges-requires c κs = let Y = c .before .before .before .before .before .before .pre .0 .0 in let K = c .before .before .before .before .before .before .pre .1 .1 in ((Y .reads, c .before .before .before .before .before .before .pre .0 .1, Y .marked), (c .before .before .before .before .before .before .pre .1 .0 .table, edges-none _ _ _ _ (K .from-long) (K .to-long) (K .cost-long)))
 
 lay-loads-requires : tie.Need-lay-loads-requires
-lay-loads-requires c κs = let R = c .before .before .before .before .before .before .before .before .before .pre .1 .0 in ((c .before .before .before .before .before .before .before .before .before .pre .0 .reads, leaves-count _ _ _ _ (R .table), R .table .table .counted), ((R .vertices, R .arcs), loads-none _ _ (c .before .before .before .before .before .before .before .before .before .pre .1 .1 .full-long)))
+lay-loads-requires c κs = let R = c .before .before .before .before .before .before .before .before .pre .1 .0 in ((c .before .before .before .before .before .before .before .before .pre .0 .0 .reads, leaves-count _ _ _ _ (R .table), R .table .table .counted), ((R .vertices, R .arcs), loads-none _ _ (c .before .before .before .before .before .before .before .before .pre .1 .1 .full-long)))
 
 lay-live-requires : tie.Need-lay-live-requires
 lay-live-requires c κs = search needs
@@ -36,21 +33,20 @@ add-lay-balance-2 : tie.Need-add-lay-balance-2
 add-lay-balance-2 c = search needs
 
 add-lay-balance-3 : tie.Need-add-lay-balance-3
-add-lay-balance-3 c = omega (arith, c .before .before .before .before .before .before .before .before .before .before .before .before .pre .1 .0 .table .table .counted, c .before .before .before .before .before .before .before .before .before .wide .ensures .1, c .before .before .before .before .before .before .before .before .be16 .ensures .1)
+add-lay-balance-3 c = omega (arith, c .before .before .before .before .before .before .before .before .before .before .before .pre .1 .0 .table .table .counted, c .before .before .before .before .before .before .before .before .before .vertex-count .ensures .1, c .before .before .before .before .before .before .before .before .arc-count .ensures .1)
 
 lay-balance-requires : tie.Need-lay-balance-requires
-lay-balance-requires c κs = let Y = c .before .before .before .before .before .before .before .before .before .before .before .before .before .before .before .before .before .pre .0 in let K = c .before .before .before .before .before .before .before .before .before .before .before .before .before .before .before .before .before .pre .1 .1 in (laid-summable _ _ _ _ (c .before .before .before .before .before .before .before .before .before .before .before .before .before .before .wide .ensures .0) (c .before .before .before .before .before .before .before .before .before .before .before .before .before .be16 .ensures .0) (leaves-count _ _ _ _ (c .before .before .before .before .before .before .before .before .before .before .before .before .before .before .before .before .before .pre .1 .0 .table)) (Y .reads) (Y .coverable) _ _ _ _ (c .before .before .before .before .before .before .before .before .before .lay-edges .ensures) (c .before .before .before .before .before .before .before .lay-loads .ensures), tally-none _ _ _ _ _ _ (K .surplus-long) (K .deficit-long) (K .no-surplus) (K .no-deficit))
+lay-balance-requires c κs = let Y = c .before .before .before .before .before .before .before .before .before .before .before .before .before .before .before .before .pre .0 .0 in let K = c .before .before .before .before .before .before .before .before .before .before .before .before .before .before .before .before .pre .1 .1 in (laid-summable _ _ _ _ (c .before .before .before .before .before .before .before .before .before .before .before .before .before .before .vertex-count .ensures .0) (c .before .before .before .before .before .before .before .before .before .before .before .before .before .arc-count .ensures .0) (leaves-count _ _ _ _ (c .before .before .before .before .before .before .before .before .before .before .before .before .before .before .before .before .pre .1 .0 .table)) (Y .reads) (Y .coverable) _ _ _ _ (c .before .before .before .before .before .before .before .before .before .lay-edges .ensures) (c .before .before .before .before .before .before .before .lay-loads .ensures), tally-none _ _ _ _ _ _ (K .surplus-long) (K .deficit-long) (K .no-surplus) (K .no-deficit))
 
 returns : tie.Need-returns
-returns c = record { edges = c .before .before .before .before .before .before .before .before .before .before .lay-edges .ensures; loads = c .before .before .before .before .before .before .before .before .lay-loads .ensures; nodes = c .before .before .before .before .before .before .lay-live .ensures; balance = laid-balance _ _ _ _ (c .before .before .before .before .before .before .before .before .before .before .before .before .before .before .before .wide .ensures .0) (c .before .before .before .before .before .before .before .before .before .before .before .before .before .before .be16 .ensures .0) (leaves-count _ _ _ _ (c .before .before .before .before .before .before .before .before .before .before .before .before .before .before .before .before .before .before .pre .1 .0 .table)) _ _ _ _ _ (c .lay-balance .ensures) }
+returns c = record { edges = c .before .before .before .before .before .before .before .before .before .before .lay-edges .ensures; loads = c .before .before .before .before .before .before .before .before .lay-loads .ensures; nodes = c .before .before .before .before .before .before .lay-live .ensures; balance = laid-balance _ _ _ _ (c .before .before .before .before .before .before .before .before .before .before .before .before .before .before .before .vertex-count .ensures .0) (c .before .before .before .before .before .before .before .before .before .before .before .before .before .before .arc-count .ensures .0) (leaves-count _ _ _ _ (c .before .before .before .before .before .before .before .before .before .before .before .before .before .before .before .before .before .pre .1 .0 .table)) _ _ _ _ _ (c .lay-balance .ensures) }
 
 pub lay-network-spec : {M : Type 1} → statement M
 lay-network-spec =
     tie.close
     (tie.spec
-    shared-slice-read-wide
-    wide-requires
-    be16-requires
+    vertex-count-requires
+    arc-count-requires
     lay-edges-requires
     lay-loads-requires
     lay-live-requires

@@ -1,6 +1,6 @@
 -- `builder::finish::final_marks` meets its contract. The loop's invariant: the marks of the vertices before v are held. Assumes nothing.
 use Rattle.builder.proofs.FinishLaws.{held-is}
-use Rattle.reach.proofs.ReachLaws.{Filled, fill-none, fill-more}
+use Rattle.forms.proofs.Filling.{Filled, fill-none, fill-more}
 use Rattle.builder.specs.Finish.{heldMark}
 use Rattle.forms.specs.GraphForm.{vertexCount}
 use Rattle.mathematics.proofs.Links.{inNode, outNode}
@@ -8,24 +8,21 @@ use mathlib.Core.Path.{_≡_}
 use Prim.Native.Nat.{_≤_, _<_, _-_}
 use native.Mathlib.Omega.{arith}
 use borrow.Author.Needs.{needs}
-use Rattle.forms.specs.Limits.{maxVertices}
+use Rattle.forms.specs.Limits.{roomVertices}
 use Rattle.builder.proofs.finish.final_marks.Statement.{statement}
 use Rattle.builder.proofs.finish.final_marks.Tie as tie
 
 abbrev Inv-loop : tie.InvT-loop
-Inv-loop s reached reaching mark into₀ outof₀ n v₀ into outof v = (v ≤ n) × (n ≡ vertexCount s) × (n ≤ maxVertices) × Filled maxVertices 0 (heldMark s inNode mark) into v × Filled maxVertices 0 (heldMark s outNode mark) outof v
+Inv-loop s reached reaching mark into₀ outof₀ n v₀ into outof v = (v ≤ n) × (n ≡ vertexCount s) × (n ≤ roomVertices) × Filled roomVertices 0 (heldMark s inNode mark) into v × Filled roomVertices 0 (heldMark s outNode mark) outof v
 
 abbrev μ-loop : tie.MeasureT-loop
 μ-loop s reached reaching mark into₀ outof₀ n v₀ into outof v = n - v
 
-shared-slice-read-wide : tie.Need-shared-slice-read-wide Inv-loop μ-loop
-shared-slice-read-wide c = search needs
-
-wide-requires : tie.Need-wide-requires Inv-loop μ-loop
-wide-requires c κs = search needs
+vertex-count-requires : tie.Need-vertex-count-requires Inv-loop μ-loop
+vertex-count-requires c κs = search needs
 
 loop-holds : tie.Need-loop-holds Inv-loop μ-loop
-loop-holds c = (omega arith, c .wide .ensures .0, omega (arith, c .wide .ensures .0, c .before .before .before .pre .0 .reads .arcs .header .few-vertices), fill-none (c .before .before .before .pre .1 .0), fill-none (c .before .before .before .pre .1 .1))
+loop-holds c = (omega arith, c .vertex-count .ensures .0, omega (arith, c .vertex-count .ensures .0, c .before .before .pre .0 .reads .arcs .header .vertices-room), fill-none (c .before .before .pre .1 .0), fill-none (c .before .before .pre .1 .1))
 
 element-copy-out-side-mark : tie.Need-element-copy-out-side-mark Inv-loop μ-loop
 element-copy-out-side-mark c = search needs
@@ -88,7 +85,7 @@ loop-less : tie.Need-loop-less Inv-loop μ-loop
 loop-less c = search needs
 
 loop-again : tie.Need-loop-again Inv-loop μ-loop
-loop-again c = let I = c .before .before .before .before .before .before .before .before .before .loop .inv in let P = c .before .before .before .before .before .before .before .before .before .before .before .before .before .pre .0 in let t : c .before .before .before .before .before .before .before .before .before .loop .v < vertexCount (c .before .before .before .before .before .before .before .before .before .before .before .before .before .args .s .now) = omega (arith, I .1) in (omega arith, I .1, I .2, fill-more (I .3) (omega arith) (held-is _ _ inNode _ _ _ _ (P .starts .says _ t) (P .ends .says _ t) (c .before .before .before .before .side-mark .ensures)), fill-more (I .4) (omega arith) (held-is _ _ outNode _ _ _ _ (P .starts .says _ t) (P .ends .says _ t) (c .side-mark2 .ensures)))
+loop-again c = let I = c .before .before .before .before .before .before .before .before .before .loop .inv in let P = c .before .before .before .before .before .before .before .before .before .before .before .before .pre .0 in let t : c .before .before .before .before .before .before .before .before .before .loop .v < vertexCount (c .before .before .before .before .before .before .before .before .before .before .before .before .args .s .now) = omega (arith, I .1) in (omega arith, I .1, I .2, fill-more (I .3) (omega arith) (held-is _ _ inNode _ _ _ _ (P .starts .says _ t) (P .ends .says _ t) (c .before .before .before .before .side-mark .ensures)), fill-more (I .4) (omega arith) (held-is _ _ outNode _ _ _ _ (P .starts .says _ t) (P .ends .says _ t) (c .side-mark2 .ensures)))
 
 returns : tie.Need-returns Inv-loop μ-loop
 returns c = let I = c .before .loop .inv in record { into-held = λ v h. I .3 .each v (omega (arith, I .1)); out-held = λ v h. I .4 .each v (omega (arith, I .1)) }
@@ -99,8 +96,7 @@ final-marks-spec =
     (tie.spec
     Inv-loop
     μ-loop
-    shared-slice-read-wide
-    wide-requires
+    vertex-count-requires
     loop-holds
     element-copy-out-side-mark
     element-copy-out-side-mark-2

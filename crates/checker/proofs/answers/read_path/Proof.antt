@@ -2,7 +2,7 @@
 use borrow.Author.Tests.{not-true, not-false}
 use mathlib.Core.Path.{sym, _∙_}
 use Rattle.checker.proofs.AnswerPaths.{record-refused, record-no-path, record-no-order, record-right, fault-head, room-for, head-room}
-use Rattle.checker.proofs.AnswerWalk.{walked-rises}
+use Rattle.tally.proofs.PathWalkLaws.{walked-rises}
 use native.Mathlib.Omega.{arith}
 use borrow.Author.Needs.{needs}
 use Rattle.checker.proofs.answers.read_path.Statement.{statement}

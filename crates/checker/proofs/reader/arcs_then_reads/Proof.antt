@@ -9,39 +9,31 @@ use borrow.Author.Needs.{needs}
 use Rattle.checker.proofs.reader.arcs_then_reads.Statement.{statement}
 use Rattle.checker.proofs.reader.arcs_then_reads.Tie as tie
 
-arc-count-requires : tie.Need-arc-count-requires
-arc-count-requires c κs = search needs
-
 arcs-verdict-requires : tie.Need-arcs-verdict-requires
 arcs-verdict-requires c κs = search needs
 
 returns : tie.Need-returns
-returns c = then-refused _ (counted _ _ (c .before .before .arcs-verdict .ensures) (c .before .before .before .arc-count .ensures .0)) (search needs)
+returns c = then-refused _ (counted _ _ (c .before .before .arcs-verdict .ensures) (c .before .before .before .before .pre .2)) (search needs)
 
 first-arcs-requires : tie.Need-first-arcs-requires
-first-arcs-requires c κs = arcs-hold _ (c .before .before .before .before .before .pre .0) (ap (λ (v : Verdict). v .number) (sym (counted _ _ (c .before .before .arcs-verdict .ensures) (c .before .before .before .arc-count .ensures .0))) ∙ c .if1 .left)
-
-read-count-requires : tie.Need-read-count-requires
-read-count-requires c κs = search needs
+first-arcs-requires c κs = arcs-hold _ (c .before .before .before .before .pre .0) (ap (λ (v : Verdict). v .number) (sym (counted _ _ (c .before .before .arcs-verdict .ensures) (c .before .before .before .before .pre .2))) ∙ c .if1 .left)
 
 first-read-at-requires : tie.Need-first-read-at-requires
 first-read-at-requires c κs = search needs
 
 reads-verdict-requires : tie.Need-reads-verdict-requires
-reads-verdict-requires c κs = (search needs, omega (arith, c .first-read-at .ensures, arc-place _ _ (c .before .before .before .before .before .before .before .before .before .pre .0 .vertices-room) (c .before .before .before .before .before .before .before .before .before .pre .0 .arcs-room)))
+reads-verdict-requires c κs = (search needs, omega (arith, c .first-read-at .ensures, arc-place _ _ (c .before .before .before .before .before .before .before .pre .0 .vertices-room) (c .before .before .before .before .before .before .before .pre .0 .arcs-room)))
 
 returns-2 : tie.Need-returns-2
-returns-2 c = then-passed (counted _ _ (c .before .before .before .before .before .before .before .arcs-verdict .ensures) (c .before .before .before .before .before .before .before .before .arc-count .ensures .0)) (search needs) (reads-counted _ (c .reads-verdict .ensures) (c .before .before .read-count .ensures .0) (c .before .first-read-at .ensures))
+returns-2 c = then-passed (counted _ _ (c .before .before .before .before .before .before .arcs-verdict .ensures) (c .before .before .before .before .before .before .before .before .pre .2)) (search needs) (reads-counted _ (c .reads-verdict .ensures) (c .before .before .before .before .before .before .before .before .pre .3) (c .before .first-read-at .ensures))
 
 pub arcs-then-reads-spec : {M : Type 1} → statement M
 arcs-then-reads-spec =
     tie.close
     (tie.spec
-    arc-count-requires
     arcs-verdict-requires
     returns
     first-arcs-requires
-    read-count-requires
     first-read-at-requires
     reads-verdict-requires
     returns-2)
