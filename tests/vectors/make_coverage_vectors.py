@@ -13,9 +13,11 @@ import sys
 
 ROOT = os.path.join(os.path.dirname(os.path.abspath(__file__)), "..", "..")
 sys.path.insert(0, os.path.join(ROOT, "tests", "reference"))
+sys.path.insert(0, os.path.join(ROOT, "tests"))
 
 import stored
 from coverage import MAX_BASES, MAX_EXONS, MAX_LENGTH, MAX_QUOTIENT, demands
+from tally import must
 
 SEED = 20261116
 HELD = 77  # what each entry of the lent list holds before the call
@@ -97,6 +99,6 @@ for name, bases, lengths, lent in vectors:
         stdin += number.to_bytes(4, "big")
     answer = demands(bases, lengths, [HELD] * lent)
     lines.append((name, " ".join(str(n) for n in (answer.number, answer.place, answer.written, *answer.demands))))
-assert max(max(len(bases), len(lengths), lent) for _, bases, lengths, lent in vectors) <= ROOM
-assert {0, 30, 32, 33} == {int(line.split()[0]) for _, line in lines}
+must(max(max(len(bases), len(lengths), lent) for _, bases, lengths, lent in vectors) <= ROOM, "a list is longer than the program holds")
+must({0, 30, 32, 33} == {int(line.split()[0]) for _, line in lines}, "a number is never given")
 stored.keep("coverage_vectors", stdin, lines, f"{len(vectors)} vectors")
