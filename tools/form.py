@@ -302,6 +302,9 @@ MEANINGS = {
     22: ("the bound differs from the price: the cover is not shown to be of lowest price", None),
     23: ("there is no path with the number asked for", None),
     29: ("the output lent to a listing is shorter than its text", None),
+    30: ("base counts: bases, lengths and demands are not three lists of one length, 1 to 256", None),
+    32: ("base counts: the exon whose number is the place has a length that is not 1 to 1,000,000", None),
+    33: ("base counts: the whole coverage of the exon whose number is the place is above 1,000,000", None),
 }
 
 

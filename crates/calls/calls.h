@@ -47,6 +47,14 @@ struct handed_out_part hand_out_path(const uint8_t *graph, size_t graph_len, con
  * 32,543 bytes do. */
 struct built_form build_answer_form(const uint8_t *graph, size_t graph_len, uint8_t *out, size_t out_len);
 
+struct filled_list {
+    uint64_t number, place, written;
+};
+
+/* Numbers 30, 32 and 33. For each exon: demands gets bases / lengths, cut off; written is how many entries, 0 where it refuses. The three
+ * lists have one length, 1 to 256; 30, place 0, where not. The place of 32 and 33 is the exon's number, from 0. */
+struct filled_list demands_from_counts(const uint32_t *bases, size_t bases_len, const uint32_t *lengths, size_t lengths_len, uint32_t *demands, size_t demands_len);
+
 #ifdef __cplusplus
 }
 #endif

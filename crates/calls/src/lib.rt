@@ -5,6 +5,7 @@ ghost use Rattle.forms.specs.GraphFaults.{refusal, graphVerdict};
 ghost use Rattle.checker.specs.Check.{checkVerdict};
 ghost use Rattle.checker.specs.HandedOut.{PartFound};
 ghost use Rattle.builder.specs.Build.{BuildPromise};
+ghost use Rattle.coverage.specs.Demands.{DemandsPromise};
 
 // Number and place of what is refused; both are 0 where nothing is.
 #[repr(C)]
@@ -80,5 +81,30 @@ pub extern "C" fn build_answer_form(graph: &[u8], out: &mut [u8]) -> BuiltForm
         number: built.number as u64,
         place: built.place as u64,
         written: built.written as u64,
+    }
+}
+
+// Number and place, and how many entries of a lent list were written: 0 where something is refused.
+#[repr(C)]
+pub struct FilledList {
+    pub number: u64,
+    pub place: u64,
+    pub written: u64,
+}
+
+// Writes the demand of each exon, the whole part of its bases by its length, to the lent list: numbers 30, 32 and 33.
+#[no_mangle]
+pub extern "C" fn demands_from_counts(
+    bases: &[u32],
+    lengths: &[u32],
+    demands: &mut [u32],
+) -> FilledList
+    ensures { λ r. ⌜ DemandsPromise (now (bases .entry)) (now (lengths .entry)) (now (demands .entry)) (now (demands .exit)) (record { number = r .number; place = r .place; written = r .written }) ⌝ }
+{
+    let filled = coverage::demands(bases, lengths, demands);
+    FilledList {
+        number: filled.number as u64,
+        place: filled.place as u64,
+        written: filled.written as u64,
     }
 }

@@ -1,0 +1,4 @@
+pub mod Rounding
+pub mod WholePart
+pub mod DemandLaws
+pub mod Promised
