@@ -1,0 +1,66 @@
+-- `pivot::improve` is safe and ends. Each pivot takes from the fuel. Assumes nothing.
+use Prim.Native.Nat.{_≤_}
+use borrow.Author.Needs.{needs}
+use Rattle.pivot.proofs.improve.Statement.{statement}
+use Rattle.pivot.proofs.improve.Tie as tie
+
+abbrev Inv-loop : tie.InvT-loop
+Inv-loop nodes edges fuel from to cost by₀ up₀ flow₀ mark₀ parent₀ depth₀ child₀ after₀ before₀ block start₀ left₀ by up flow mark parent depth child after before start left = left ≤ fuel
+
+abbrev μ-loop : tie.MeasureT-loop
+μ-loop nodes edges fuel from to cost by₀ up₀ flow₀ mark₀ parent₀ depth₀ child₀ after₀ before₀ block start₀ left₀ by up flow mark parent depth child after before start left = left
+
+array-write-depth : tie.Need-array-write-depth Inv-loop μ-loop
+array-write-depth c = search needs
+
+list-all-requires : tie.Need-list-all-requires Inv-loop μ-loop
+list-all-requires c κs = search needs
+
+block-of-requires : tie.Need-block-of-requires Inv-loop μ-loop
+block-of-requires c κs = search needs
+
+loop-holds : tie.Need-loop-holds Inv-loop μ-loop
+loop-holds c = search needs
+
+best-entry-requires : tie.Need-best-entry-requires Inv-loop μ-loop
+best-entry-requires c κs = search needs
+
+returns : tie.Need-returns Inv-loop μ-loop
+returns c = search needs
+
+pivot-requires : tie.Need-pivot-requires Inv-loop μ-loop
+pivot-requires c κs = search needs
+
+returns-2 : tie.Need-returns-2 Inv-loop μ-loop
+returns-2 c = search needs
+
+sub-left : tie.Need-sub-left Inv-loop μ-loop
+sub-left c = search needs
+
+loop-less : tie.Need-loop-less Inv-loop μ-loop
+loop-less c = search needs
+
+loop-again : tie.Need-loop-again Inv-loop μ-loop
+loop-again c = search needs
+
+returns-3 : tie.Need-returns-3 Inv-loop μ-loop
+returns-3 c = search needs
+
+pub improve-spec : {M : Type 1} → statement M
+improve-spec =
+    tie.close
+    (tie.spec
+    Inv-loop
+    μ-loop
+    array-write-depth
+    list-all-requires
+    block-of-requires
+    loop-holds
+    best-entry-requires
+    returns
+    pivot-requires
+    returns-2
+    sub-left
+    loop-less
+    loop-again
+    returns-3)

@@ -1,0 +1,236 @@
+// A guess of the flow of lowest cost, by the network simplex. No contract here says that the guess is right: the functions are proved to be safe and
+// to end, and nothing more is believed of them. Whoever calls `guess` tests its loads and marks, and takes another way where they fail the test.
+//
+// So there is no invariant on the tree. Every number of a node or an edge that is read from an array is cut to the range, every walk counts its
+// steps, and marks and flows wrap.
+
+// Numbers cut to their range.
+mod cut;
+// The edge that enters the tree.
+mod enter;
+// The tree that holds the flow.
+mod tree;
+// The edge that leaves the tree, and the turn of the part that it cuts off.
+mod turn;
+// The cheapest ways between the root and each node.
+mod ways;
+
+use crate::cut::edge;
+use crate::cut::narrow;
+use crate::cut::node;
+use crate::enter::best_entry;
+use crate::enter::block_of;
+use crate::tree::hang_all;
+use crate::tree::list_all;
+use crate::turn::Hold;
+use crate::turn::NO_LIMIT;
+use crate::turn::find_least;
+use crate::turn::move_part;
+use crate::turn::move_round;
+use crate::turn::turn_part;
+use crate::ways::FAR;
+use crate::ways::load_from_root;
+use crate::ways::load_to_root;
+use crate::ways::unload_all;
+use crate::ways::ways_from_root;
+use crate::ways::ways_to_root;
+use std::num::wrapping_add_u64;
+use std::num::wrapping_sub_u64;
+
+// How many nodes and edges a network can have.
+pub const NODES: usize = 129;
+
+pub const EDGES: usize = 464;
+
+// The node of the entering edge that moves to the other side, and how the marks of its part change.
+struct Move {
+    node: usize,
+    onto: usize,
+    change: u64,
+}
+
+// Where the edge that leaves is ahead, the entering edge's end moves, and its part's marks fall by the gain; else its beginning does, and they rise.
+fn mover(u: usize, v: usize, ahead: bool, gain: u64) -> Move {
+    if ahead {
+        Move {
+            node: v,
+            onto: u,
+            change: wrapping_sub_u64(0, gain),
+        }
+    } else {
+        Move {
+            node: u,
+            onto: v,
+            change: gain,
+        }
+    }
+}
+
+// One pivot: edge e enters the tree, what can be moved round goes round, and an edge with nothing left on it leaves the tree. False where the way round
+// has no limit.
+fn pivot(
+    e: usize,
+    gain: u64,
+    from: &[usize; EDGES],
+    to: &[usize; EDGES],
+    mark: &mut [u64; NODES],
+    by: &mut [u16; NODES],
+    up: &mut [bool; NODES],
+    flow: &mut [u64; NODES],
+    parent: &mut [u16; NODES],
+    depth: &mut [u16; NODES],
+    child: &mut [u16; NODES],
+    after: &mut [u16; NODES],
+    before: &mut [u16; NODES],
+) -> bool {
+    let u = node(from[edge(e)]);
+    let v = node(to[edge(e)]);
+    let found = find_least(u, v, parent, depth, up, flow);
+    if found.least == NO_LIMIT {
+        return false;
+    }
+    move_round(u, v, found.back, found.least, parent, up, flow);
+    let moves = mover(u, v, found.ahead, gain);
+    let hold = Hold {
+        parent: moves.onto,
+        by: narrow(e),
+        up: !found.ahead,
+        flow: found.least,
+    };
+    turn_part(
+        moves.node,
+        found.cut,
+        hold,
+        parent,
+        by,
+        up,
+        flow,
+        child,
+        after,
+        before,
+    );
+    move_part(moves.node, moves.change, parent, child, after, depth, mark);
+    true
+}
+
+// Lets edges with a slack below 0 enter the tree until there is none. False where `fuel` pivots are not enough.
+fn improve(
+    nodes: usize,
+    edges: usize,
+    fuel: usize,
+    from: &[usize; EDGES],
+    to: &[usize; EDGES],
+    cost: &[u64; EDGES],
+    by: &mut [u16; NODES],
+    up: &mut [bool; NODES],
+    flow: &mut [u64; NODES],
+    mark: &mut [u64; NODES],
+) -> bool {
+    let mut parent = [0u16; NODES];
+    let mut depth = [1u16; NODES];
+    depth[0] = 0;
+    let mut child = [0u16; NODES];
+    let mut after = [0u16; NODES];
+    let mut before = [0u16; NODES];
+    list_all(nodes, &mut child, &mut after, &mut before);
+    let block = block_of(edges);
+    let mut start: usize = 0;
+    let mut left = fuel;
+    while left > 0 {
+        let entry = best_entry(edges, block, start, from, to, cost, mark);
+        if entry.gain == 0 {
+            return true;
+        }
+        if !pivot(
+            entry.edge,
+            entry.gain,
+            from,
+            to,
+            mark,
+            by,
+            up,
+            flow,
+            &mut parent,
+            &mut depth,
+            &mut child,
+            &mut after,
+            &mut before,
+        ) {
+            return false;
+        }
+        start = entry.next;
+        left -= 1;
+    }
+    false
+}
+
+// Marks are held with this added while the tree is improved, so that none falls below 0.
+const LIFT: u64 = 1_125_899_906_842_624;
+
+fn lower_marks(nodes: usize, mark: &mut [u64; NODES]) {
+    let mut u: usize = 0;
+    while u < nodes {
+        let here = node(u);
+        mark[here] = wrapping_sub_u64(mark[here], LIFT);
+        u += 1;
+    }
+}
+
+// Guesses loads and marks that carry every surplus to the deficits at the lowest cost. The root is node 0, its mark stays, and the loads are 0 before;
+// `head` and `next` are the chains of the edges that leave each node. True where the guess was brought to its end within `fuel` pivots.
+pub fn guess(
+    nodes: usize,
+    edges: usize,
+    fuel: usize,
+    from: &[usize; EDGES],
+    to: &[usize; EDGES],
+    cost: &[u64; EDGES],
+    head: &[usize; NODES],
+    next: &[usize; EDGES],
+    surplus: &[u64; NODES],
+    deficit: &[u64; NODES],
+    load: &mut [u64; EDGES],
+    mark: &mut [u64; NODES],
+) -> bool {
+    let mut arrive = [FAR; NODES];
+    let mut last = [0u16; NODES];
+    ways_from_root(nodes, to, cost, head, next, &mut arrive, &mut last);
+    let mut leave = [FAR; NODES];
+    let mut first = [0u16; NODES];
+    ways_to_root(nodes, to, cost, head, next, &mut leave, &mut first);
+    let mut by = [narrow(EDGES); NODES];
+    let mut up = [false; NODES];
+    let mut flow = [0u64; NODES];
+    mark[0] = wrapping_add_u64(mark[0], LIFT);
+    hang_all(
+        nodes,
+        &arrive,
+        &leave,
+        surplus,
+        deficit,
+        &mut up,
+        &mut flow,
+        mark,
+    );
+    if !improve(
+        nodes,
+        edges,
+        fuel,
+        from,
+        to,
+        cost,
+        &mut by,
+        &mut up,
+        &mut flow,
+        mark,
+    ) {
+        return false;
+    }
+    lower_marks(nodes, mark);
+    let mut arriving = [0u64; NODES];
+    let mut leaving = [0u64; NODES];
+    unload_all(nodes, &by, &up, &flow, load, &mut arriving, &mut leaving);
+    load_from_root(nodes, from, &last, load, &mut arriving);
+    load_to_root(nodes, to, &first, load, &mut leaving);
+    true
+}
