@@ -11,7 +11,7 @@ use mir.Val.{Fits}
 use borrow.Author.Tests.{eq-eqb, ne-eqb}
 use lib.ListN.{length, set, length-set}
 use lib.Seq.{getD-set-same, getD-set-other}
-use Rattle.network.specs.Network.{at, sumTo, share, Chained, Cleared}
+use Rattle.network.specs.Network.{nth, sumTo, share, Chained, Cleared, mostNodes}
 
 -- two numbers are the same, or they differ
 pub same-or-not : (a b : ℕ) → (a ≡ b) ⊎ (a ≢ b)
@@ -35,15 +35,15 @@ pub none-left : (n : ℕ) → n ≤ 0 → n ≡ 0
 none-left n l = omega arith
 
 -- where an element of eight bytes stands
-pub offset-fits : (i : ℕ) → i < 129 → Fits w64 (i * 8)
+pub offset-fits : (i : ℕ) → i < mostNodes → Fits w64 (i * 8)
 offset-fits i l = omega arith
 
 -- what stands at j after a store at i
-pub at-set : (xs : List ℕ) (i a j : ℕ) → i < length xs → ((j ≡ i) × (at (set xs i a) j ≡ a)) ⊎ ((j ≢ i) × (at (set xs i a) j ≡ at xs j))
-at-set xs i a j h = go (same-or-not j i)
+pub nth-set : (xs : List ℕ) (i a j : ℕ) → i < length xs → ((j ≡ i) × (nth (set xs i a) j ≡ a)) ⊎ ((j ≢ i) × (nth (set xs i a) j ≡ nth xs j))
+nth-set xs i a j h = go (same-or-not j i)
   where
-    go : (j ≡ i) ⊎ (j ≢ i) → ((j ≡ i) × (at (set xs i a) j ≡ a)) ⊎ ((j ≢ i) × (at (set xs i a) j ≡ at xs j))
-    go (inl e) = inl (e, ap (at (set xs i a)) e ∙ getD-set-same xs i a 0 h)
+    go : (j ≡ i) ⊎ (j ≢ i) → ((j ≡ i) × (nth (set xs i a) j ≡ a)) ⊎ ((j ≢ i) × (nth (set xs i a) j ≡ nth xs j))
+    go (inl e) = inl (e, ap (nth (set xs i a)) e ∙ getD-set-same xs i a 0 h)
     go (inr n) = inr (n, getD-set-other xs i j a 0 n)
 
 -- ---- sums
@@ -96,14 +96,14 @@ pub share-most : (u v k : ℕ) → share u v k ≤ k
 share-most u v k = ⊎-elim (λ e. omega (arith, share-same u v k e)) (λ n. omega (arith, share-other u v k n)) (same-or-not u v)
 
 -- ---- chains of edges
-pub cleared-more : (u : ℕ) (head : List ℕ) → Cleared u head → u < 129 → Cleared (u + 1) (set head u 0)
+pub cleared-more : (u : ℕ) (head : List ℕ) → Cleared u head → u < mostNodes → Cleared (u + 1) (set head u 0)
 cleared-more u head C h = record {
   long = length-set head u 0 ∙ C .long;
-  nothing = λ v p. ⊎-elim (λ s. s .1) (λ o. o .1 ∙ C .nothing v (omega arith)) (at-set head u 0 v (omega (arith, C .long)));
+  nothing = λ v p. ⊎-elim (λ s. s .1) (λ o. o .1 ∙ C .nothing v (omega arith)) (nth-set head u 0 v (omega (arith, C .long)));
 }
 
 -- no edge is in a chain of no edges
-pub chain-none : (N : ℕ) (key head next : List ℕ) → ((u : ℕ) → u < N → at head u ≡ 0) → Chained N 0 key head next
+pub chain-none : (N : ℕ) (key head next : List ℕ) → ((u : ℕ) → u < N → nth head u ≡ 0) → Chained N 0 key head next
 chain-none N key head next z = record {
   head-below = λ u p. omega (arith, z u p);
   head-key = λ u p f e. absurd (omega (arith, z u p));
@@ -114,48 +114,48 @@ chain-none N key head next z = record {
 }
 
 -- one edge more, put before the others of its node
-module _ (N e : ℕ) (key head next : List ℕ) (C : Chained N e key head next) (node : at key e < N) (hl : N ≤ length head) (nl : e < length next) where
+module _ (N e : ℕ) (key head next : List ℕ) (C : Chained N e key head next) (node : nth key e < N) (hl : N ≤ length head) (nl : e < length next) where
   abbrev head' : List ℕ
-  head' = set head (at key e) (e + 1)
+  head' = set head (nth key e) (e + 1)
 
   abbrev next' : List ℕ
-  next' = set next e (at head (at key e))
+  next' = set next e (nth head (nth key e))
 
-  on-head : (u : ℕ) → ((u ≡ at key e) × (at head' u ≡ e + 1)) ⊎ ((u ≢ at key e) × (at head' u ≡ at head u))
-  on-head u = at-set head (at key e) (e + 1) u (omega arith)
+  on-head : (u : ℕ) → ((u ≡ nth key e) × (nth head' u ≡ e + 1)) ⊎ ((u ≢ nth key e) × (nth head' u ≡ nth head u))
+  on-head u = nth-set head (nth key e) (e + 1) u (omega arith)
 
-  on-next : (f : ℕ) → ((f ≡ e) × (at next' f ≡ at head (at key e))) ⊎ ((f ≢ e) × (at next' f ≡ at next f))
-  on-next f = at-set next e (at head (at key e)) f nl
+  on-next : (f : ℕ) → ((f ≡ e) × (nth next' f ≡ nth head (nth key e))) ⊎ ((f ≢ e) × (nth next' f ≡ nth next f))
+  on-next f = nth-set next e (nth head (nth key e)) f nl
 
-  head-below' : (u : ℕ) → u < N → at head' u ≤ e + 1
+  head-below' : (u : ℕ) → u < N → nth head' u ≤ e + 1
   head-below' u p = ⊎-elim (λ s. omega arith) (λ o. omega (arith, C .head-below u p)) (on-head u)
 
-  head-key' : (u : ℕ) → u < N → (f : ℕ) → at head' u ≡ f + 1 → at key f ≡ u
+  head-key' : (u : ℕ) → u < N → (f : ℕ) → nth head' u ≡ f + 1 → nth key f ≡ u
   head-key' u p f q =
-      ⊎-elim (λ s. let fe : f ≡ e = omega arith in ap (at key) fe ∙ sym (s .0)) (λ o. C .head-key u p f (sym (o .1) ∙ q)) (on-head u)
+      ⊎-elim (λ s. let fe : f ≡ e = omega arith in ap (nth key) fe ∙ sym (s .0)) (λ o. C .head-key u p f (sym (o .1) ∙ q)) (on-head u)
 
-  head-all' : (u : ℕ) → u < N → (d : ℕ) → d < e + 1 → at key d ≡ u → d < at head' u
+  head-all' : (u : ℕ) → u < N → (d : ℕ) → d < e + 1 → nth key d ≡ u → d < nth head' u
   head-all' u p d l k = ⊎-elim
       (λ s. omega arith)
-      (λ o. ⊎-elim (λ de. absurd (o .0 (sym k ∙ ap (at key) de))) (λ ne. omega (arith, C .head-all u p d (omega arith) k)) (same-or-not d e))
+      (λ o. ⊎-elim (λ de. absurd (o .0 (sym k ∙ ap (nth key) de))) (λ ne. omega (arith, C .head-all u p d (omega arith) k)) (same-or-not d e))
       (on-head u)
 
-  next-below' : (f : ℕ) → f < e + 1 → at next' f ≤ f
-  next-below' f p = ⊎-elim (λ s. omega (arith, C .head-below (at key e) node)) (λ o. omega (arith, C .next-below f (omega arith))) (on-next f)
+  next-below' : (f : ℕ) → f < e + 1 → nth next' f ≤ f
+  next-below' f p = ⊎-elim (λ s. omega (arith, C .head-below (nth key e) node)) (λ o. omega (arith, C .next-below f (omega arith))) (on-next f)
 
-  next-key' : (f : ℕ) → f < e + 1 → (g : ℕ) → at next' f ≡ g + 1 → at key g ≡ at key f
+  next-key' : (f : ℕ) → f < e + 1 → (g : ℕ) → nth next' f ≡ g + 1 → nth key g ≡ nth key f
   next-key' f p g q = ⊎-elim
-      (λ s. C .head-key (at key e) node g (sym (s .1) ∙ q) ∙ ap (at key) (sym (s .0)))
+      (λ s. C .head-key (nth key e) node g (sym (s .1) ∙ q) ∙ ap (nth key) (sym (s .0)))
       (λ o. C .next-key f (omega arith) g (sym (o .1) ∙ q))
       (on-next f)
 
-  next-all' : (f : ℕ) → f < e + 1 → (d : ℕ) → d < f → at key d ≡ at key f → d < at next' f
+  next-all' : (f : ℕ) → f < e + 1 → (d : ℕ) → d < f → nth key d ≡ nth key f → d < nth next' f
   next-all' f p d l k = ⊎-elim
-      (λ s. omega (arith, C .head-all (at key e) node d (omega arith) (k ∙ ap (at key) (s .0))))
+      (λ s. omega (arith, C .head-all (nth key e) node d (omega arith) (k ∙ ap (nth key) (s .0))))
       (λ o. omega (arith, C .next-all f (omega arith) d l k))
       (on-next f)
 
-  pub chain-more : Chained N (e + 1) key (set head (at key e) (e + 1)) (set next e (at head (at key e)))
+  pub chain-more : Chained N (e + 1) key (set head (nth key e) (e + 1)) (set next e (nth head (nth key e)))
   chain-more = record {
     head-below = head-below';
     head-key = head-key';

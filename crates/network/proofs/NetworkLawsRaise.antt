@@ -8,8 +8,8 @@ use mathlib.Core.Logic.{inl, inr, ⊎-elim}
 use lib.Dec.{T}
 use lib.ListN.{length, set, length-set}
 use lib.Seq.{getD-set-other}
-use Rattle.network.specs.Network.{at, liveAt, Shape, SlacksHold, LoadsTight, MarksNear, Hop, forward, back, Found, Way, stop, step, reach, Raisable, Raised, Rung, ahead, behind, Laid}
-use Rattle.network.proofs.NetworkLaws.{below-or-not, at-set}
+use Rattle.network.specs.Network.{nth, liveAt, Shape, SlacksHold, LoadsTight, MarksNear, Hop, forward, back, TargetFound, Way, stop, step, span, Raisable, Raised, Rung, ahead, behind, Laid, mostNodes, farthest, highest}
+use Rattle.network.proofs.NetworkLaws.{below-or-not, nth-set}
 
 pub is-live : (b : Bool) → b ≡ true → T b
 is-live b e = subst T (sym e) tt
@@ -19,9 +19,9 @@ is-dead b e t = subst T e t
 
 -- ---- the loop: the first i nodes are raised
 pub record Raising (N i : ℕ) (live : List Bool) (dist : List ℕ) (most : ℕ) (old mark : List ℕ) : Type 0 where
-  pub long : length mark ≡ 129
-  pub raised : (u : ℕ) → u < i → T (liveAt live u) → at mark u + min (at dist 0) most ≡ at old u + min (at dist u) most
-  pub as-before : (u : ℕ) → i ≤ u → at mark u ≡ at old u
+  pub long : length mark ≡ mostNodes
+  pub raised : (u : ℕ) → u < i → T (liveAt live u) → nth mark u + min (nth dist 0) most ≡ nth old u + min (nth dist u) most
+  pub as-before : (u : ℕ) → i ≤ u → nth mark u ≡ nth old u
 
 module _ (N : ℕ) (live : List Bool) (dist : List ℕ) (most : ℕ) (old : List ℕ) (A : Raisable N live dist most old) where
   pub raise-none : Raising N 0 live dist most old old
@@ -31,27 +31,27 @@ module _ (N : ℕ) (live : List Bool) (dist : List ℕ) (most : ℕ) (old : List
   raise-all i mark R l = record { long = R .long; raised = λ u p. R .raised u (omega arith) }
 
   module _ (i : ℕ) (mark : List ℕ) (R : Raising N i live dist most old mark) (l : i < N) where
-    pub raise-fits : T (liveAt live i) → (min (at dist 0) most ≤ at mark i + min (at dist i) most) × (at mark i ≤ 4_000_000_000) × (most ≤ 1_000_000_000_000)
+    pub raise-fits : T (liveAt live i) → (min (nth dist 0) most ≤ nth mark i + min (nth dist i) most) × (nth mark i ≤ highest) × (most ≤ farthest)
     raise-fits t =
         let e = R .as-before i (omega arith) in
         let a = A .room i l t in
         let b = A .small i l t in
         (omega arith, omega arith, A .not-far)
 
-    pub raise-one : T (liveAt live i) → (more shift : ℕ) (x : List ℕ) → more ≡ min (at dist i) most → shift ≡ min (at dist 0) most →
-        x ≡ set mark i (at mark i + more - shift) → Raising N (i + 1) live dist most old x
+    pub raise-one : T (liveAt live i) → (more shift : ℕ) (x : List ℕ) → more ≡ min (nth dist i) most → shift ≡ min (nth dist 0) most →
+        x ≡ set mark i (nth mark i + more - shift) → Raising N (i + 1) live dist most old x
     raise-one t more shift x em es ex =
         let f = raise-fits t in
         let here = R .as-before i (omega arith) in
         let room : i < length mark = let a = A .few-nodes in let b = R .long in omega arith in
-        let new = at mark i + more - shift in
+        let new = nth mark i + more - shift in
         rw ex (record {
           long = length-set mark i new ∙ R .long;
           raised = λ u p t. ⊎-elim
-              (λ s. let a = s .1 in let b = ap (at old) (s .0) in let d = ap (at dist) (s .0) in let g = f .0 in
-              subst (λ x. at (set mark i new) u + min (at dist 0) most ≡ at old x + min (at dist x) most) (sym (s .0)) (omega arith))
+              (λ s. let a = s .1 in let b = ap (nth old) (s .0) in let d = ap (nth dist) (s .0) in let g = f .0 in
+              subst (λ x. nth (set mark i new) u + min (nth dist 0) most ≡ nth old x + min (nth dist x) most) (sym (s .0)) (omega arith))
               (λ o. let a = R .raised u (let n = o .0 in omega arith) t in let b = o .1 in omega arith)
-              (at-set mark i new u room);
+              (nth-set mark i new u room);
           as-before = λ u p. getD-set-other mark i u new 0 (λ q. omega arith) ∙ R .as-before u (omega arith);
         })
 
@@ -63,39 +63,39 @@ module _ (N : ℕ) (live : List Bool) (dist : List ℕ) (most : ℕ) (old : List
     })
 
 -- ---- a value that grows by no more than the cost along each edge grows by no more than the cost along a way
-pub way-most : {E : ℕ} {from to cost : List ℕ} {u w c : ℕ} (f : ℕ → ℕ) → ((e : ℕ) → e < E → f (at to e) ≤ at cost e + f (at from e)) →
+pub way-most : {E : ℕ} {from to cost : List ℕ} {u w c : ℕ} (f : ℕ → ℕ) → ((e : ℕ) → e < E → f (nth to e) ≤ nth cost e + f (nth from e)) →
     Way E from to cost u w c → f w ≤ f u + c
 way-most f less stop = omega arith
 way-most f less (step e l w) = let a = less e l in let b = way-most f less w in omega arith
 
 module _ (N E : ℕ) (live : List Bool) (from to cost load mark deficit : List ℕ) (source target : ℕ) (dist via rank : List ℕ)
     (P : Shape N E live from to cost) (S : SlacksHold E from to cost mark) (L : LoadsTight E from to cost mark load) (M : MarksNear N live mark)
-    (F : Found N E from to cost load mark deficit source target dist via rank) where
+    (F : TargetFound N E from to cost load mark deficit source target dist via rank) where
   -- a mark raised, before what the root is raised by is taken off
   lifted : ℕ → ℕ
-  lifted u = at mark u + min (at dist u) (at dist target)
+  lifted u = nth mark u + min (nth dist u) (nth dist target)
 
-  lifted-slack : (e : ℕ) → e < E → lifted (at to e) ≤ at cost e + lifted (at from e)
+  lifted-slack : (e : ℕ) → e < E → lifted (nth to e) ≤ nth cost e + lifted (nth from e)
   unfolding lifted
   lifted-slack e l = let s = S e l in ⊎-elim (λ a. omega arith) (λ b. omega arith) (F .relaxed e l)
 
-  lifted-tight : (e : ℕ) → e < E → 1 ≤ at load e → lifted (at to e) ≡ at cost e + lifted (at from e)
+  lifted-tight : (e : ℕ) → e < E → 1 ≤ nth load e → lifted (nth to e) ≡ nth cost e + lifted (nth from e)
   unfolding lifted
   lifted-tight e l o =
       let s = L e l o in
-      let a : min (at dist (at to e)) (at dist target) ≤ min (at dist (at from e)) (at dist target) =
+      let a : min (nth dist (nth to e)) (nth dist target) ≤ min (nth dist (nth from e)) (nth dist target) =
       ⊎-elim (λ a. omega arith) (λ b. omega arith) (F .relaxed e l) in
-      let b : min (at dist (at from e)) (at dist target) ≤ min (at dist (at to e)) (at dist target) =
+      let b : min (nth dist (nth from e)) (nth dist target) ≤ min (nth dist (nth to e)) (nth dist target) =
       ⊎-elim (λ a. omega arith) (λ b. omega arith) (F .relaxed-back e l o) in
       omega arith
 
-  from-root-lifted : (u : ℕ) → u < N → T (liveAt live u) → lifted u ≤ lifted 0 + reach
+  from-root-lifted : (u : ℕ) → u < N → T (liveAt live u) → lifted u ≤ lifted 0 + span
   from-root-lifted u un t = let w = P .from-root u un t in let a = way-most lifted lifted-slack (w .2) in let b = w .1 in omega arith
 
-  to-root-lifted : (u : ℕ) → u < N → T (liveAt live u) → lifted 0 ≤ lifted u + reach
+  to-root-lifted : (u : ℕ) → u < N → T (liveAt live u) → lifted 0 ≤ lifted u + span
   to-root-lifted u un t = let w = P .to-root u un t in let a = way-most lifted lifted-slack (w .2) in let b = w .1 in omega arith
 
-  pub raisable : length mark ≡ 129 → Raisable N live dist (at dist target) mark
+  pub raisable : length mark ≡ mostNodes → Raisable N live dist (nth dist target) mark
   unfolding lifted
   raisable long = record {
     few-nodes = P .few-nodes;
@@ -105,15 +105,15 @@ module _ (N E : ℕ) (live : List Bool) (from to cost load mark deficit : List �
     room = λ u un t. let a = to-root-lifted u un t in let b = M .at-root in omega arith;
   }
 
-  module _ (mark' : List ℕ) (R : Raised N live dist (at dist target) mark mark') where
+  module _ (mark' : List ℕ) (R : Raised N live dist (nth dist target) mark mark') where
     pub raised-slacks : SlacksHold E from to cost mark'
     unfolding lifted
     raised-slacks e l =
         let a = lifted-slack e l in
         let f = P .from-live e l in
         let t = P .to-live e l in
-        let x = R .raised (at from e) (f .0) (f .1) in
-        let y = R .raised (at to e) (t .0) (t .1) in
+        let x = R .raised (nth from e) (f .0) (f .1) in
+        let y = R .raised (nth to e) (t .0) (t .1) in
         omega arith
 
     pub raised-loads : LoadsTight E from to cost mark' load
@@ -122,8 +122,8 @@ module _ (N E : ℕ) (live : List Bool) (from to cost load mark deficit : List �
         let a = lifted-tight e l o in
         let f = P .from-live e l in
         let t = P .to-live e l in
-        let x = R .raised (at from e) (f .0) (f .1) in
-        let y = R .raised (at to e) (t .0) (t .1) in
+        let x = R .raised (nth from e) (f .0) (f .1) in
+        let y = R .raised (nth to e) (t .0) (t .1) in
         omega arith
 
     pub raised-near : MarksNear N live mark'
@@ -136,18 +136,18 @@ module _ (N E : ℕ) (live : List Bool) (from to cost load mark deficit : List �
           not-below = λ u un t. let a = to-root-lifted u un t in let b = R .raised u un t in omega arith;
         }
 
-    rung : (v : ℕ) → at rank v < N → v < N → Hop E from to cost load mark dist via rank v → Rung E from to cost load mark' via rank v
+    rung : (v : ℕ) → nth rank v < N → v < N → Hop E from to cost load mark dist via rank v → Rung E from to cost load mark' via rank v
     unfolding lifted
     rung v settled vn (forward e l q t r s) =
         let f = P .from-live e l in
         let g = P .to-live e l in
-        let x = R .raised (at from e) (f .0) (f .1) in
-        let y = R .raised (at to e) (g .0) (g .1) in
+        let x = R .raised (nth from e) (f .0) (f .1) in
+        let y = R .raised (nth to e) (g .0) (g .1) in
         let near = F .settled-near v vn settled in
-        let near' = F .settled-near (at from e) (f .0) (omega arith) in
-        let a = ap (at mark') t in
-        let b = ap (at mark) t in
-        let d = ap (at dist) t in
+        let near' = F .settled-near (nth from e) (f .0) (omega arith) in
+        let a = ap (nth mark') t in
+        let b = ap (nth mark) t in
+        let d = ap (nth dist) t in
         ahead e q (record { edge = l; to-here = t; lower = r; tight = omega arith })
     rung v settled vn (back e l q t r o s) = behind e q (record { edge = l; from-here = t; lower = r; loaded = o })
 

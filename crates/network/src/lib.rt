@@ -3,11 +3,21 @@
 ghost use mathlib.Core.Path.{_≡_};
 ghost use Prim.Native.Nat.{ℕ, _+_, _*_, _<_, _≤_, min};
 ghost use lib.ListN.{length};
-ghost use Rattle.network.specs.Network.{at, Chained, Keys, Cleared, Lanes, Growing, Nearest, Lowered, Seeking, Fresh, Found, Raisable, Raised, Laid, Room, Pushing, Shape, Carrying, Carries, OthersKept, Waiting, Carried, sumTo};
+ghost use Rattle.network.specs.Network.{nth, Chained, Keys, Cleared, Lanes, Growing, Nearest, Lowered, Seeking, Fresh, TargetFound, Raisable, Raised, Laid, Bottleneck, Pushing, Shape, Carrying, Carries, OthersKept, Waiting, Carried, sumTo, mostNodes, mostEdges};
+
+// How many nodes and edges there are at the most: as long are the arrays. specs/Network.antt has the same numbers.
+pub const NODES: usize = 129;
+
+pub const EDGES: usize = 464;
+
+// Marks are held with the base added, and are no further from it than the span: one edge of any cost and 63 that cost no more than 1,000,000.
+pub const BASE: u64 = 2_000_000_000;
+
+pub const SPAN: u64 = 1_000_000_000 + 63 * 1_000_000;
 
 // No edge is in a chain yet.
-fn clear(nodes: usize, head: &mut [usize; 129])
-    requires { ⌜ (nodes ≤ 129) × (length (now head) ≡ 129) ⌝ }
+fn clear(nodes: usize, head: &mut [usize; NODES])
+    requires { ⌜ (nodes ≤ mostNodes) × (length (now head) ≡ mostNodes) ⌝ }
     ensures { λ _. ⌜ Cleared nodes (now (head .exit)) ⌝ }
 {
     let mut u: usize = 0;
@@ -21,9 +31,9 @@ fn clear(nodes: usize, head: &mut [usize; 129])
 pub fn chain(
     nodes: usize,
     edges: usize,
-    key: &[usize; 464],
-    head: &mut [usize; 129],
-    next: &mut [usize; 464],
+    key: &[usize; EDGES],
+    head: &mut [usize; NODES],
+    next: &mut [usize; EDGES],
 )
     requires { ⌜ Keys nodes edges (now key) (now head) (now next) ⌝ }
     ensures { λ _. ⌜ Chained nodes edges (now (key .entry)) (now (head .exit)) (now (next .exit)) ⌝ }
@@ -42,8 +52,8 @@ pub fn chain(
 const FAR: u64 = 1_152_921_504_606_846_976;
 
 // The nearest of the nodes that are reached and not settled (a settled node's rank is below `nodes`); `nodes` where there is none.
-fn nearest(nodes: usize, dist: &[u64; 129], rank: &[usize; 129]) -> usize
-    requires { ⌜ nodes ≤ 129 ⌝ }
+fn nearest(nodes: usize, dist: &[u64; NODES], rank: &[usize; NODES]) -> usize
+    requires { ⌜ nodes ≤ mostNodes ⌝ }
     ensures { λ r. ⌜ Nearest nodes (now (dist .entry)) (now (rank .entry)) r ⌝ }
 {
     let mut best = nodes;
@@ -62,8 +72,8 @@ fn nearest(nodes: usize, dist: &[u64; 129], rank: &[usize; 129]) -> usize
 }
 
 // Takes the distance d to v, reached as `hop` says, where it is less than what was known.
-fn lower(v: usize, d: u64, hop: usize, dist: &mut [u64; 129], via: &mut [usize; 129])
-    requires { ⌜ v < 129 ⌝ }
+fn lower(v: usize, d: u64, hop: usize, dist: &mut [u64; NODES], via: &mut [usize; NODES])
+    requires { ⌜ v < mostNodes ⌝ }
     ensures { λ _. ⌜ Lowered (now (dist .entry)) (now (via .entry)) v d hop (now (dist .exit)) (now (via .exit)) ⌝ }
 {
     if d < dist[v] {
@@ -76,19 +86,19 @@ fn lower(v: usize, d: u64, hop: usize, dist: &mut [u64; 129], via: &mut [usize; 
 fn relax_out(
     nodes: usize,
     edges: usize,
-    from: &[usize; 464],
-    to: &[usize; 464],
-    cost: &[u64; 464],
-    load: &[u64; 464],
-    mark: &[u64; 129],
-    head: &[usize; 129],
-    next: &[usize; 464],
+    from: &[usize; EDGES],
+    to: &[usize; EDGES],
+    cost: &[u64; EDGES],
+    load: &[u64; EDGES],
+    mark: &[u64; NODES],
+    head: &[usize; NODES],
+    next: &[usize; EDGES],
     source: usize,
     u: usize,
     count: usize,
-    dist: &mut [u64; 129],
-    via: &mut [usize; 129],
-    rank: &[usize; 129],
+    dist: &mut [u64; NODES],
+    via: &mut [usize; NODES],
+    rank: &[usize; NODES],
 )
     requires { ⌜ Lanes nodes edges (now from) (now to) (now cost) (now mark) ⌝ }
     requires { ⌜ Chained nodes edges (now from) (now head) (now next) ⌝ }
@@ -111,19 +121,19 @@ fn relax_out(
 fn relax_back(
     nodes: usize,
     edges: usize,
-    from: &[usize; 464],
-    to: &[usize; 464],
-    cost: &[u64; 464],
-    load: &[u64; 464],
-    mark: &[u64; 129],
-    head: &[usize; 129],
-    next: &[usize; 464],
+    from: &[usize; EDGES],
+    to: &[usize; EDGES],
+    cost: &[u64; EDGES],
+    load: &[u64; EDGES],
+    mark: &[u64; NODES],
+    head: &[usize; NODES],
+    next: &[usize; EDGES],
     source: usize,
     u: usize,
     count: usize,
-    dist: &mut [u64; 129],
-    via: &mut [usize; 129],
-    rank: &[usize; 129],
+    dist: &mut [u64; NODES],
+    via: &mut [usize; NODES],
+    rank: &[usize; NODES],
 )
     requires { ⌜ Lanes nodes edges (now from) (now to) (now cost) (now mark) ⌝ }
     requires { ⌜ Chained nodes edges (now to) (now head) (now next) ⌝ }
@@ -146,26 +156,26 @@ fn relax_back(
 fn search(
     nodes: usize,
     edges: usize,
-    from: &[usize; 464],
-    to: &[usize; 464],
-    cost: &[u64; 464],
-    load: &[u64; 464],
-    mark: &[u64; 129],
-    headout: &[usize; 129],
-    nextout: &[usize; 464],
-    headin: &[usize; 129],
-    nextin: &[usize; 464],
-    deficit: &[u64; 129],
+    from: &[usize; EDGES],
+    to: &[usize; EDGES],
+    cost: &[u64; EDGES],
+    load: &[u64; EDGES],
+    mark: &[u64; NODES],
+    headout: &[usize; NODES],
+    nextout: &[usize; EDGES],
+    headin: &[usize; NODES],
+    nextin: &[usize; EDGES],
+    deficit: &[u64; NODES],
     source: usize,
-    dist: &mut [u64; 129],
-    via: &mut [usize; 129],
-    rank: &mut [usize; 129],
+    dist: &mut [u64; NODES],
+    via: &mut [usize; NODES],
+    rank: &mut [usize; NODES],
 ) -> usize
     requires { ⌜ Seeking nodes edges (now from) (now to) (now cost) (now mark) (now deficit) source ⌝ }
     requires { ⌜ Chained nodes edges (now from) (now headout) (now nextout) ⌝ }
     requires { ⌜ Chained nodes edges (now to) (now headin) (now nextin) ⌝ }
     requires { ⌜ Fresh nodes (now dist) (now via) (now rank) ⌝ }
-    ensures { λ r. ⌜ Found nodes edges (now (from .entry)) (now (to .entry)) (now (cost .entry)) (now (load .entry)) (now (mark .entry)) (now (deficit .entry)) source r (now (dist .exit)) (now (via .exit)) (now (rank .exit)) ⌝ }
+    ensures { λ r. ⌜ TargetFound nodes edges (now (from .entry)) (now (to .entry)) (now (cost .entry)) (now (load .entry)) (now (mark .entry)) (now (deficit .entry)) source r (now (dist .exit)) (now (via .exit)) (now (rank .exit)) ⌝ }
 {
     dist[source] = 0;
     rank[source] = 0;
@@ -221,7 +231,13 @@ fn lesser(a: u64, b: u64) -> u64
 
 // Raises each live node's mark by the lesser of its distance and the target's, `most`: no slack falls below 0, and the slacks along the way found
 // become 0. What the root is raised by is taken off everywhere, so that the root's mark stays.
-fn raise(nodes: usize, live: &[bool; 129], dist: &[u64; 129], most: u64, mark: &mut [u64; 129])
+fn raise(
+    nodes: usize,
+    live: &[bool; NODES],
+    dist: &[u64; NODES],
+    most: u64,
+    mark: &mut [u64; NODES],
+)
     requires { ⌜ Raisable nodes (now live) (now dist) most (now mark) ⌝ }
     ensures { λ _. ⌜ Raised nodes (now (live .entry)) (now (dist .entry)) most (now (mark .entry)) (now (mark .exit)) ⌝ }
 {
@@ -237,23 +253,23 @@ fn raise(nodes: usize, live: &[bool; 129], dist: &[u64; 129], most: u64, mark: &
 }
 
 // How much can be moved from the source to the target: no more than `limit`, nor than the load of any edge that is taken back.
-fn room(
+fn bottleneck(
     nodes: usize,
     edges: usize,
-    from: &[usize; 464],
-    to: &[usize; 464],
-    cost: &[u64; 464],
-    load: &[u64; 464],
-    mark: &[u64; 129],
-    via: &[usize; 129],
-    rank: &[usize; 129],
+    from: &[usize; EDGES],
+    to: &[usize; EDGES],
+    cost: &[u64; EDGES],
+    load: &[u64; EDGES],
+    mark: &[u64; NODES],
+    via: &[usize; NODES],
+    rank: &[usize; NODES],
     source: usize,
     target: usize,
     limit: u64,
 ) -> u64
     requires { ⌜ Laid nodes edges (now from) (now to) (now cost) (now load) (now mark) (now via) (now rank) source target ⌝ }
     requires { ⌜ 1 ≤ limit ⌝ }
-    ensures { λ r. ⌜ Room edges (now (from .entry)) (now (to .entry)) (now (cost .entry)) (now (load .entry)) (now (mark .entry)) (now (via .entry)) (now (rank .entry)) source target limit r ⌝ }
+    ensures { λ r. ⌜ Bottleneck edges (now (from .entry)) (now (to .entry)) (now (cost .entry)) (now (load .entry)) (now (mark .entry)) (now (via .entry)) (now (rank .entry)) source target limit r ⌝ }
 {
     let mut v = target;
     let mut most = limit;
@@ -273,16 +289,16 @@ fn room(
 fn push(
     nodes: usize,
     edges: usize,
-    from: &[usize; 464],
-    to: &[usize; 464],
-    cost: &[u64; 464],
-    mark: &[u64; 129],
-    via: &[usize; 129],
-    rank: &[usize; 129],
+    from: &[usize; EDGES],
+    to: &[usize; EDGES],
+    cost: &[u64; EDGES],
+    mark: &[u64; NODES],
+    via: &[usize; NODES],
+    rank: &[usize; NODES],
     source: usize,
     target: usize,
     amount: u64,
-    load: &mut [u64; 464],
+    load: &mut [u64; EDGES],
 )
     requires { ⌜ Laid nodes edges (now from) (now to) (now cost) (now load) (now mark) (now via) (now rank) source target ⌝ }
     requires { ⌜ Pushing nodes edges (now from) (now to) (now cost) (now mark) (now via) (now rank) source target amount (now load) target (now load) ⌝ }
@@ -305,33 +321,33 @@ fn push(
 fn round(
     nodes: usize,
     edges: usize,
-    live: &[bool; 129],
-    from: &[usize; 464],
-    to: &[usize; 464],
-    cost: &[u64; 464],
-    headout: &[usize; 129],
-    nextout: &[usize; 464],
-    headin: &[usize; 129],
-    nextin: &[usize; 464],
+    live: &[bool; NODES],
+    from: &[usize; EDGES],
+    to: &[usize; EDGES],
+    cost: &[u64; EDGES],
+    headout: &[usize; NODES],
+    nextout: &[usize; EDGES],
+    headin: &[usize; NODES],
+    nextin: &[usize; EDGES],
     source: usize,
-    load: &mut [u64; 464],
-    mark: &mut [u64; 129],
-    surplus: &mut [u64; 129],
-    deficit: &mut [u64; 129],
+    load: &mut [u64; EDGES],
+    mark: &mut [u64; NODES],
+    surplus: &mut [u64; NODES],
+    deficit: &mut [u64; NODES],
 )
     requires { ⌜ Shape nodes edges (now live) (now from) (now to) (now cost) ⌝ }
     requires { ⌜ Chained nodes edges (now from) (now headout) (now nextout) ⌝ }
     requires { ⌜ Chained nodes edges (now to) (now headin) (now nextin) ⌝ }
     requires { ⌜ Carrying nodes edges (now live) (now from) (now to) (now cost) (now load) (now mark) (now surplus) (now deficit) ⌝ }
-    requires { ⌜ (source < nodes) × (1 ≤ at (now surplus) source) ⌝ }
+    requires { ⌜ (source < nodes) × (1 ≤ nth (now surplus) source) ⌝ }
     ensures { λ _. ⌜ Carrying nodes edges (now (live .entry)) (now (from .entry)) (now (to .entry)) (now (cost .entry)) (now (load .exit)) (now (mark .exit)) (now (surplus .exit)) (now (deficit .exit)) ⌝ }
     ensures { λ _. ⌜ Carries nodes edges (now (from .entry)) (now (to .entry)) (now (load .entry)) (now (surplus .entry)) (now (deficit .entry)) (now (load .exit)) (now (surplus .exit)) (now (deficit .exit)) ⌝ }
     ensures { λ _. ⌜ OthersKept source (now (surplus .entry)) (now (surplus .exit)) ⌝ }
-    ensures { λ _. ⌜ at (now (surplus .exit)) source < at (now (surplus .entry)) source ⌝ }
+    ensures { λ _. ⌜ nth (now (surplus .exit)) source < nth (now (surplus .entry)) source ⌝ }
 {
-    let mut dist = [FAR; 129];
-    let mut via = [0usize; 129];
-    let mut rank = [nodes; 129];
+    let mut dist = [FAR; NODES];
+    let mut via = [0usize; NODES];
+    let mut rank = [nodes; NODES];
     let target = search(
         nodes,
         edges,
@@ -353,7 +369,7 @@ fn round(
     let most = dist[target];
     raise(nodes, live, &dist, most, mark);
     let limit = lesser(surplus[source], deficit[target]);
-    let amount = room(
+    let amount = bottleneck(
         nodes,
         edges,
         from,
@@ -389,19 +405,19 @@ fn round(
 fn carry_from(
     nodes: usize,
     edges: usize,
-    live: &[bool; 129],
-    from: &[usize; 464],
-    to: &[usize; 464],
-    cost: &[u64; 464],
-    headout: &[usize; 129],
-    nextout: &[usize; 464],
-    headin: &[usize; 129],
-    nextin: &[usize; 464],
+    live: &[bool; NODES],
+    from: &[usize; EDGES],
+    to: &[usize; EDGES],
+    cost: &[u64; EDGES],
+    headout: &[usize; NODES],
+    nextout: &[usize; EDGES],
+    headin: &[usize; NODES],
+    nextin: &[usize; EDGES],
     source: usize,
-    load: &mut [u64; 464],
-    mark: &mut [u64; 129],
-    surplus: &mut [u64; 129],
-    deficit: &mut [u64; 129],
+    load: &mut [u64; EDGES],
+    mark: &mut [u64; NODES],
+    surplus: &mut [u64; NODES],
+    deficit: &mut [u64; NODES],
 )
     requires { ⌜ Shape nodes edges (now live) (now from) (now to) (now cost) ⌝ }
     requires { ⌜ Chained nodes edges (now from) (now headout) (now nextout) ⌝ }
@@ -411,7 +427,7 @@ fn carry_from(
     ensures { λ _. ⌜ Carrying nodes edges (now (live .entry)) (now (from .entry)) (now (to .entry)) (now (cost .entry)) (now (load .exit)) (now (mark .exit)) (now (surplus .exit)) (now (deficit .exit)) ⌝ }
     ensures { λ _. ⌜ Carries nodes edges (now (from .entry)) (now (to .entry)) (now (load .entry)) (now (surplus .entry)) (now (deficit .entry)) (now (load .exit)) (now (surplus .exit)) (now (deficit .exit)) ⌝ }
     ensures { λ _. ⌜ OthersKept source (now (surplus .entry)) (now (surplus .exit)) ⌝ }
-    ensures { λ _. ⌜ at (now (surplus .exit)) source ≡ 0 ⌝ }
+    ensures { λ _. ⌜ nth (now (surplus .exit)) source ≡ 0 ⌝ }
 {
     while surplus[source] > 0 {
         round(
@@ -438,25 +454,25 @@ fn carry_from(
 pub fn carry_all(
     nodes: usize,
     edges: usize,
-    live: &[bool; 129],
-    from: &[usize; 464],
-    to: &[usize; 464],
-    cost: &[u64; 464],
-    headout: &[usize; 129],
-    nextout: &[usize; 464],
-    headin: &[usize; 129],
-    nextin: &[usize; 464],
-    load: &mut [u64; 464],
-    mark: &mut [u64; 129],
-    surplus: &mut [u64; 129],
-    deficit: &mut [u64; 129],
+    live: &[bool; NODES],
+    from: &[usize; EDGES],
+    to: &[usize; EDGES],
+    cost: &[u64; EDGES],
+    headout: &[usize; NODES],
+    nextout: &[usize; EDGES],
+    headin: &[usize; NODES],
+    nextin: &[usize; EDGES],
+    load: &mut [u64; EDGES],
+    mark: &mut [u64; NODES],
+    surplus: &mut [u64; NODES],
+    deficit: &mut [u64; NODES],
 )
     requires { ⌜ Shape nodes edges (now live) (now from) (now to) (now cost) ⌝ }
     requires { ⌜ Chained nodes edges (now from) (now headout) (now nextout) ⌝ }
     requires { ⌜ Chained nodes edges (now to) (now headin) (now nextin) ⌝ }
     requires { ⌜ Waiting nodes edges (now live) (now load) (now mark) (now surplus) (now deficit) ⌝ }
-    ensures { λ _. ⌜ ((given wanted : ℕ → ℕ) → ((u : ℕ) → u < nodes → at (now (surplus .entry)) u + wanted u ≡ at (now (deficit .entry)) u + given u) → Carried nodes edges (now (live .entry)) (now (from .entry)) (now (to .entry)) (now (cost .entry)) (now (load .exit)) (now (mark .exit)) given wanted (sumTo nodes (λ u. at (now (surplus .entry)) u))) ⌝ }
-    ensures { λ _. ⌜ (length (now (load .exit)) ≡ 464) × (length (now (mark .exit)) ≡ 129) ⌝ }
+    ensures { λ _. ⌜ ((given wanted : ℕ → ℕ) → ((u : ℕ) → u < nodes → nth (now (surplus .entry)) u + wanted u ≡ nth (now (deficit .entry)) u + given u) → Carried nodes edges (now (live .entry)) (now (from .entry)) (now (to .entry)) (now (cost .entry)) (now (load .exit)) (now (mark .exit)) given wanted (sumTo nodes (λ u. nth (now (surplus .entry)) u))) ⌝ }
+    ensures { λ _. ⌜ (length (now (load .exit)) ≡ mostEdges) × (length (now (mark .exit)) ≡ mostNodes) ⌝ }
 {
     let mut u: usize = 0;
     while u < nodes {

@@ -1,7 +1,7 @@
 -- `network::carry_from` meets its contract. The loop's invariant: the state between rounds, and what changed since the start; the measure is the
 -- source's surplus. Assumes nothing.
 use native.Mathlib.Omega.{arith}
-use Rattle.network.specs.Network.{at, Carrying, Carries, OthersKept}
+use Rattle.network.specs.Network.{nth, Carrying, Carries, OthersKept}
 use Rattle.network.proofs.NetworkLaws.{none-left}
 use Rattle.network.proofs.NetworkLawsCarry.{carries-none, carries-more, others-none, others-more}
 use Rattle.network.proofs.carry_from.Statement.{statement}
@@ -13,7 +13,7 @@ Inv-loop nodes edges live from to cost headout nextout headin nextin source load
 
 abbrev μ-loop : tie.MeasureT-loop
 μ-loop nodes edges live from to cost headout nextout headin nextin source load₀ mark₀ surplus₀ deficit₀ load mark surplus deficit =
-    at surplus source
+    nth surplus source
 
 loop-holds : tie.Need-loop-holds Inv-loop μ-loop
 loop-holds c = (c .pre .1 .1 .1 .0, carries-none _ _ _ _ _ _ _, others-none _ _)

@@ -4,14 +4,14 @@ use mathlib.Core.Path.{_≡_}
 use native.Mathlib.Omega.{arith}
 use borrow.Author.Needs.{needs}
 use lib.ListN.{length, length-set}
-use Rattle.network.specs.Network.{at, Chained}
+use Rattle.network.specs.Network.{nth, Chained, mostNodes, mostEdges}
 use Rattle.network.proofs.NetworkLaws.{chain-none, chain-more}
 use Rattle.network.proofs.chain.Statement.{statement}
 use Rattle.network.proofs.chain.Tie as tie
 
 abbrev Inv-loop : tie.InvT-loop
 Inv-loop nodes edges key head₀ next₀ e₀ head next e =
-    (e ≤ edges) × (length head ≡ 129) × (length next ≡ 464) × Chained nodes e key head next
+    (e ≤ edges) × (length head ≡ mostNodes) × (length next ≡ mostEdges) × Chained nodes e key head next
 
 abbrev μ-loop : tie.MeasureT-loop
 μ-loop nodes edges key head₀ next₀ e₀ head next e = edges - e
@@ -20,7 +20,7 @@ clear-requires : tie.Need-clear-requires Inv-loop μ-loop
 clear-requires c κs = search needs
 
 -- the edge's key is a node
-key-node : (c : tie.In-loop Inv-loop μ-loop) → at (c .before .before .before .before .args .key .now) (c .before .loop .e) < 129
+key-node : (c : tie.In-loop Inv-loop μ-loop) → nth (c .before .before .before .before .args .key .now) (c .before .loop .e) < mostNodes
 key-node c = omega (arith, c .before .before .before .before .pre .key-node (c .before .loop .e) (omega arith))
 
 loop-holds : tie.Need-loop-holds Inv-loop μ-loop

@@ -1,4 +1,4 @@
--- `network::clear` meets its contract. The loop's invariant: the first u are cleared, and there are still 129. Assumes nothing.
+-- `network::clear` meets its contract. The loop's invariant: the first u are cleared, and all nodes are still there. Assumes nothing.
 use Prim.Native.Nat.{_≤_, _-_}
 use native.Mathlib.Omega.{arith}
 use borrow.Author.Needs.{needs}

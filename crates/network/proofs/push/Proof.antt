@@ -2,7 +2,7 @@
 use Prim.Native.Nat.{_≤_, _<_, _/_}
 use mathlib.Core.Path.{_≡_}
 use native.Mathlib.Omega.{arith}
-use Rattle.network.specs.Network.{at, Pushing}
+use Rattle.network.specs.Network.{nth, Pushing, mostEdges}
 use Rattle.network.proofs.NetworkLawsPush.{push-edge, push-fits, push-falls, push-along, push-fits-back, push-falls-back, push-against}
 use Rattle.network.proofs.push.Statement.{statement}
 use Rattle.network.proofs.push.Tie as tie
@@ -12,10 +12,10 @@ Inv-loop nodes edges from to cost mark via rank source target amount load₀ v�
     Pushing nodes edges from to cost mark via rank source target amount load₀ v load
 
 abbrev μ-loop : tie.MeasureT-loop
-μ-loop nodes edges from to cost mark via rank source target amount load₀ v₀ load v = at rank v
+μ-loop nodes edges from to cost mark via rank source target amount load₀ v₀ load v = nth rank v
 
 edge :
-    (c : tie.In-loop Inv-loop μ-loop) → (at (c .before .before .args .via .now) (c .before .loop .v) / 2 < c .before .before .args .edges) × (c .before .before .args .edges ≤ 464)
+    (c : tie.In-loop Inv-loop μ-loop) → (nth (c .before .before .args .via .now) (c .before .loop .v) / 2 < c .before .before .args .edges) × (c .before .before .args .edges ≤ mostEdges)
 edge c = (push-edge _ _ _ _ _ _ _ _ _ _ _ _ _ _ (c .before .before .pre .0 .few-edges) (c .before .before .pre .0 .from-node) (c .before .before .pre .0 .to-node) (c .before .loop .inv) (c .loop-test .taken), c .before .before .pre .0 .few-edges)
 
 loop-holds : tie.Need-loop-holds Inv-loop μ-loop

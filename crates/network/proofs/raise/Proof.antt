@@ -4,14 +4,14 @@ use mathlib.Core.Path.{_≡_}
 use mathlib.Core.Logic.{⊎-elim}
 use native.Mathlib.Omega.{arith}
 use borrow.Author.Needs.{needs}
-use Rattle.network.specs.Network.{at}
+use Rattle.network.specs.Network.{nth, farthest, highest}
 use Rattle.network.proofs.NetworkLawsRaise.{Raising, raise-none, raise-all, raise-fits, raise-one, raise-skip, is-live, is-dead}
 use Rattle.network.proofs.raise.Statement.{statement}
 use Rattle.network.proofs.raise.Tie as tie
 
 abbrev Inv-loop : tie.InvT-loop
 Inv-loop nodes live dist most mark₀ shift u₀ mark u =
-    (shift ≡ min (at dist 0) most) × (u ≤ nodes) × Raising nodes u live dist most mark₀ mark
+    (shift ≡ min (nth dist 0) most) × (u ≤ nodes) × Raising nodes u live dist most mark₀ mark
 
 abbrev μ-loop : tie.MeasureT-loop
 μ-loop nodes live dist most mark₀ shift u₀ mark u = nodes - u
@@ -32,7 +32,7 @@ fits :
     (c : tie.Then1 Inv-loop μ-loop) →
     let w = c .before .before .before .loop in
     let a = c .before .before .before .before .before .before .args in
-    (min (at (a .dist .now) 0) (a .most) ≤ at (w .mark) (w .u) + min (at (a .dist .now) (w .u)) (a .most)) × (at (w .mark) (w .u) ≤ 4_000_000_000) × (a .most ≤ 1_000_000_000_000)
+    (min (nth (a .dist .now) 0) (a .most) ≤ nth (w .mark) (w .u) + min (nth (a .dist .now) (w .u)) (a .most)) × (nth (w .mark) (w .u) ≤ highest) × (a .most ≤ farthest)
 fits c =
     let w = c .before .before .before .loop in
     raise-fits _ _ _ _ _ (c .before .before .before .before .before .before .pre) _ _ (w .inv .2) (c .before .before .loop-test .taken) (is-live _ (c .if1 .taken))

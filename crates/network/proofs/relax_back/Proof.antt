@@ -4,7 +4,7 @@ use Prim.Native.Nat.{_<_, _-_}
 use mathlib.Core.Path.{_≡_, refl}
 use mathlib.Core.Logic.{⊎-elim}
 use native.Mathlib.Omega.{arith}
-use Rattle.network.specs.Network.{at}
+use Rattle.network.specs.Network.{nth, mostNodes, mostEdges}
 use Rattle.network.proofs.NetworkLawsSearch.{BackWalk, back-first, back-safe, back-again, back-skipped}
 use Rattle.network.proofs.relax_back.Statement.{statement}
 use Rattle.network.proofs.relax_back.Tie as tie
@@ -32,7 +32,7 @@ element-copy-out-h c = omega arith
 safe :
     (c : tie.In-loop Inv-loop μ-loop) →
     let a = c .before .before .before .before .args in
-    (c .before .loop .h - 1 < 464) × (at (a .from .now) (c .before .loop .h - 1) < 129) × (at (a .next .now) (c .before .loop .h - 1) < c .before .loop .h)
+    (c .before .loop .h - 1 < mostEdges) × (nth (a .from .now) (c .before .loop .h - 1) < mostNodes) × (nth (a .next .now) (c .before .loop .h - 1) < c .before .loop .h)
 safe c =
     let p = c .before .before .before .before .pre in
     back-safe _ _ _ _ _ _ _ _ _ _ _ _ _ _ _ _ (p .0) (p .1 .0) _ (c .before .loop .inv) (c .loop-test .taken)

@@ -2,7 +2,7 @@
 -- Assumes nothing.
 use mathlib.Core.Path.{_≡_, refl}
 use native.Mathlib.Omega.{arith}
-use Rattle.network.specs.Network.{at}
+use Rattle.network.specs.Network.{nth}
 use Rattle.network.proofs.NetworkLawsSearch.{OutSafe, out-safe, OutWalk, out-first, out-again}
 use Rattle.network.proofs.relax_out.Statement.{statement}
 use Rattle.network.proofs.relax_out.Tie as tie
@@ -39,7 +39,7 @@ safe :
     OutSafe
     (a .edges)
     (c .before .loop .h)
-    (at (a .dist .now) (a .u))
+    (nth (a .dist .now) (a .u))
     (a .u)
     (a .to .now)
     (a .cost .now)

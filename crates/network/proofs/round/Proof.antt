@@ -1,6 +1,6 @@
 -- `network::round` meets its contract: the laws of the search, of the marks and of the move, one after the other. Assumes nothing.
 use Prim.Native.Nat.{_≤_, _<_}
-use Rattle.network.specs.Network.{at}
+use Rattle.network.specs.Network.{nth, mostNodes}
 use Rattle.network.proofs.NetworkLaws.{offset-fits}
 use Rattle.network.proofs.NetworkLawsCarry.{fresh, seeking, round-raises, round-laid, limit-some, round-pushes, round-less, round-state, round-step, round-others, round-falls}
 use native.Mathlib.Nat.{lt-of-lt-of-le}
@@ -36,28 +36,28 @@ element-copy-out-lesser-2 c = search needs
 lesser-requires : tie.Need-lesser-requires
 lesser-requires c κs = search needs
 
-room-requires : tie.Need-room-requires
-room-requires c κs = let p = c .before .before .before .before .before .before .before .before .before .before .before .before .before .before .before .before .before .pre in let q = p .1 .1 .1 .1 in
+bottleneck-requires : tie.Need-bottleneck-requires
+bottleneck-requires c κs = let p = c .before .before .before .before .before .before .before .before .before .before .before .before .before .before .before .before .before .pre in let q = p .1 .1 .1 .1 in
     (round-laid _ _ _ _ _ _ _ _ _ _ (p .0) (p .1 .1 .1 .0) _ (q .0) (q .1) _ _ _ _ (c .before .before .before .before .before .before .before .before .before .before .search .ensures) _ (c .before .before .before .before .before .before .before .raise .ensures), limit-some _ _ _ _ _ _ _ _ _ _ (p .0) (p .1 .1 .1 .0) _ (q .0) (q .1) _ _ _ _ (c .before .before .before .before .before .before .before .before .before .before .search .ensures) _ (c .before .before .before .before .before .before .before .raise .ensures) _ 0 (c .before .before .before .before .lesser .ensures))
 
 push-requires : tie.Need-push-requires
 push-requires c κs = let p = c .before .before .before .before .before .before .before .before .before .before .before .before .before .before .before .before .before .before .before .before .before .before .pre in let q = p .1 .1 .1 .1 in
-    (round-laid _ _ _ _ _ _ _ _ _ _ (p .0) (p .1 .1 .1 .0) _ (q .0) (q .1) _ _ _ _ (c .before .before .before .before .before .before .before .before .before .before .before .before .before .before .before .search .ensures) _ (c .before .before .before .before .before .before .before .before .before .before .before .before .raise .ensures), round-pushes _ _ _ _ _ _ _ _ _ _ (p .0) (p .1 .1 .1 .0) _ (q .0) (q .1) _ _ _ _ (c .before .before .before .before .before .before .before .before .before .before .before .before .before .before .before .search .ensures) _ (c .before .before .before .before .before .before .before .before .before .before .before .before .raise .ensures) _ _ (c .before .before .before .before .before .before .before .before .before .lesser .ensures) (c .before .before .before .before .room .ensures))
+    (round-laid _ _ _ _ _ _ _ _ _ _ (p .0) (p .1 .1 .1 .0) _ (q .0) (q .1) _ _ _ _ (c .before .before .before .before .before .before .before .before .before .before .before .before .before .before .before .search .ensures) _ (c .before .before .before .before .before .before .before .before .before .before .before .before .raise .ensures), round-pushes _ _ _ _ _ _ _ _ _ _ (p .0) (p .1 .1 .1 .0) _ (q .0) (q .1) _ _ _ _ (c .before .before .before .before .before .before .before .before .before .before .before .before .before .before .before .search .ensures) _ (c .before .before .before .before .before .before .before .before .before .before .before .before .raise .ensures) _ _ (c .before .before .before .before .before .before .before .before .before .lesser .ensures) (c .before .before .before .before .bottleneck .ensures))
 
-source-small : (c : tie.After-push) → c .before .before .before .before .before .before .before .before .before .before .before .before .before .before .before .before .before .before .before .before .before .before .before .args .source < 129
+source-small : (c : tie.After-push) → c .before .before .before .before .before .before .before .before .before .before .before .before .before .before .before .before .before .before .before .before .before .before .before .args .source < mostNodes
 source-small c = lt-of-lt-of-le (c .before .before .before .before .before .before .before .before .before .before .before .before .before .before .before .before .before .before .before .before .before .before .before .pre .1 .1 .1 .1 .0) (c .before .before .before .before .before .before .before .before .before .before .before .before .before .before .before .before .before .before .before .before .before .before .before .pre .0 .few-nodes)
 
-target-small : (c : tie.After-push) → c .before .before .before .before .before .before .before .before .before .before .before .before .before .before .before .before .search .result < 129
+target-small : (c : tie.After-push) → c .before .before .before .before .before .before .before .before .before .before .before .before .before .before .before .before .search .result < mostNodes
 target-small c = lt-of-lt-of-le (c .before .before .before .before .before .before .before .before .before .before .before .before .before .before .before .before .search .ensures .target-node) (c .before .before .before .before .before .before .before .before .before .before .before .before .before .before .before .before .before .before .before .before .before .before .before .pre .0 .few-nodes)
 
 -- neither the source's surplus nor the target's deficit is less than what is moved
 less :
     (c : tie.After-push) →
     let a = c .before .before .before .before .before .before .before .before .before .before .before .before .before .before .before .before .before .before .before .before .before .before .before .args in
-    (c .before .before .before .before .before .room .result ≤ at (a .surplus .now) (a .source)) × (c .before .before .before .before .before .room .result ≤ at (a .deficit .now) (c .before .before .before .before .before .before .before .before .before .before .before .before .before .before .before .before .search .result)) × (1 ≤ c .before .before .before .before .before .room .result)
+    (c .before .before .before .before .before .bottleneck .result ≤ nth (a .surplus .now) (a .source)) × (c .before .before .before .before .before .bottleneck .result ≤ nth (a .deficit .now) (c .before .before .before .before .before .before .before .before .before .before .before .before .before .before .before .before .search .result)) × (1 ≤ c .before .before .before .before .before .bottleneck .result)
 less c =
     let p = c .before .before .before .before .before .before .before .before .before .before .before .before .before .before .before .before .before .before .before .before .before .before .before .pre in let q = p .1 .1 .1 .1 in
-    round-less _ _ _ _ _ _ _ _ _ _ (p .0) (p .1 .1 .1 .0) _ (q .0) (q .1) _ _ _ _ (c .before .before .before .before .before .before .before .before .before .before .before .before .before .before .before .before .search .ensures) _ (c .before .before .before .before .before .before .before .before .before .before .before .before .before .raise .ensures) _ _ (c .before .before .before .before .before .before .before .before .before .before .lesser .ensures) (c .before .before .before .before .before .room .ensures)
+    round-less _ _ _ _ _ _ _ _ _ _ (p .0) (p .1 .1 .1 .0) _ (q .0) (q .1) _ _ _ _ (c .before .before .before .before .before .before .before .before .before .before .before .before .before .before .before .before .search .ensures) _ (c .before .before .before .before .before .before .before .before .before .before .before .before .before .raise .ensures) _ _ (c .before .before .before .before .before .before .before .before .before .before .lesser .ensures) (c .before .before .before .before .before .bottleneck .ensures)
 
 mul-surplus : tie.Need-mul-surplus
 mul-surplus c = offset-fits _ (source-small c)
@@ -91,12 +91,12 @@ element-write-deficit c = target-small (c .before .before)
 
 returns : tie.Need-returns
 returns c = let p = c .before .before .before .before .before .before .before .before .before .before .before .before .before .before .before .before .before .before .before .before .before .before .before .before .before .pre in let q = p .1 .1 .1 .1 in (
-  round-state _ _ _ _ _ _ _ _ _ _ (p .0) (p .1 .1 .1 .0) _ (q .0) (q .1) _ _ _ _ (c .before .before .before .before .before .before .before .before .before .before .before .before .before .before .before .before .before .before .search .ensures) _ (c .before .before .before .before .before .before .before .before .before .before .before .before .before .before .before .raise .ensures) _ _ (c .before .before .before .before .before .before .before .before .before .before .before .before .lesser .ensures) (c .before .before .before .before .before .before .before .room .ensures) _ (c .before .before .push .ensures),
+  round-state _ _ _ _ _ _ _ _ _ _ (p .0) (p .1 .1 .1 .0) _ (q .0) (q .1) _ _ _ _ (c .before .before .before .before .before .before .before .before .before .before .before .before .before .before .before .before .before .before .search .ensures) _ (c .before .before .before .before .before .before .before .before .before .before .before .before .before .before .before .raise .ensures) _ _ (c .before .before .before .before .before .before .before .before .before .before .before .before .lesser .ensures) (c .before .before .before .before .before .before .before .bottleneck .ensures) _ (c .before .before .push .ensures),
   (
-    round-step _ _ _ _ _ _ _ _ _ _ (p .0) (p .1 .1 .1 .0) _ (q .0) (q .1) _ _ _ _ (c .before .before .before .before .before .before .before .before .before .before .before .before .before .before .before .before .before .before .search .ensures) _ (c .before .before .before .before .before .before .before .before .before .before .before .before .before .before .before .raise .ensures) _ _ (c .before .before .before .before .before .before .before .before .before .before .before .before .lesser .ensures) (c .before .before .before .before .before .before .before .room .ensures) _ (c .before .before .push .ensures),
+    round-step _ _ _ _ _ _ _ _ _ _ (p .0) (p .1 .1 .1 .0) _ (q .0) (q .1) _ _ _ _ (c .before .before .before .before .before .before .before .before .before .before .before .before .before .before .before .before .before .before .search .ensures) _ (c .before .before .before .before .before .before .before .before .before .before .before .before .before .before .before .raise .ensures) _ _ (c .before .before .before .before .before .before .before .before .before .before .before .before .lesser .ensures) (c .before .before .before .before .before .before .before .bottleneck .ensures) _ (c .before .before .push .ensures),
     (
-      round-others _ _ _ _ _ _ _ _ _ _ (p .0) (p .1 .1 .1 .0) _ (q .0) (q .1) _ _ _ _ (c .before .before .before .before .before .before .before .before .before .before .before .before .before .before .before .before .before .before .search .ensures) _ (c .before .before .before .before .before .before .before .before .before .before .before .before .before .before .before .raise .ensures) _ _ (c .before .before .before .before .before .before .before .before .before .before .before .before .lesser .ensures) (c .before .before .before .before .before .before .before .room .ensures) _ (c .before .before .push .ensures),
-      round-falls _ _ _ _ _ _ _ _ _ _ (p .0) (p .1 .1 .1 .0) _ (q .0) (q .1) _ _ _ _ (c .before .before .before .before .before .before .before .before .before .before .before .before .before .before .before .before .before .before .search .ensures) _ (c .before .before .before .before .before .before .before .before .before .before .before .before .before .before .before .raise .ensures) _ _ (c .before .before .before .before .before .before .before .before .before .before .before .before .lesser .ensures) (c .before .before .before .before .before .before .before .room .ensures) _ (c .before .before .push .ensures),
+      round-others _ _ _ _ _ _ _ _ _ _ (p .0) (p .1 .1 .1 .0) _ (q .0) (q .1) _ _ _ _ (c .before .before .before .before .before .before .before .before .before .before .before .before .before .before .before .before .before .before .search .ensures) _ (c .before .before .before .before .before .before .before .before .before .before .before .before .before .before .before .raise .ensures) _ _ (c .before .before .before .before .before .before .before .before .before .before .before .before .lesser .ensures) (c .before .before .before .before .before .before .before .bottleneck .ensures) _ (c .before .before .push .ensures),
+      round-falls _ _ _ _ _ _ _ _ _ _ (p .0) (p .1 .1 .1 .0) _ (q .0) (q .1) _ _ _ _ (c .before .before .before .before .before .before .before .before .before .before .before .before .before .before .before .before .before .before .search .ensures) _ (c .before .before .before .before .before .before .before .before .before .before .before .before .before .before .before .raise .ensures) _ _ (c .before .before .before .before .before .before .before .before .before .before .before .before .lesser .ensures) (c .before .before .before .before .before .before .before .bottleneck .ensures) _ (c .before .before .push .ensures),
     ),
   ),
 )
@@ -114,7 +114,7 @@ round-spec =
     mul-lesser-2
     element-copy-out-lesser-2
     lesser-requires
-    room-requires
+    bottleneck-requires
     push-requires
     mul-surplus
     element-copy-out-surplus

@@ -2,6 +2,7 @@
 -- many are not settled. That a node is always found: what is reached is closed under edges. Assumes nothing.
 use Prim.Native.Nat.{_≤_, _<_, _-_}
 use native.Mathlib.Omega.{arith}
+use Rattle.network.specs.Network.{mostNodes}
 use Rattle.network.proofs.NetworkLawsSettle.{SearchWalk, search-first, search-node, search-room, search-again, found}
 use Rattle.network.proofs.NetworkLaws.{positive}
 use Rattle.network.proofs.search.Statement.{statement}
@@ -50,7 +51,7 @@ nearest-requires : tie.Need-nearest-requires Inv-loop μ-loop
 nearest-requires c κs = c .before .before .before .before .before .before .before .before .before .before .before .before .before .pre .0 .lanes .few-nodes
 
 -- a node is found, and not all were settled
-node : (c : tie.After-nearest Inv-loop μ-loop) → (c .nearest .result < 129) × (c .before .before .before .before .before .before .before .before .before .before .before .before .before .loop .count < c .before .before .before .before .before .before .before .before .before .before .before .before .before .before .args .nodes) × (c .before .before .before .before .before .before .before .before .before .before .before .before .before .before .args .nodes ≤ 129)
+node : (c : tie.After-nearest Inv-loop μ-loop) → (c .nearest .result < mostNodes) × (c .before .before .before .before .before .before .before .before .before .before .before .before .before .loop .count < c .before .before .before .before .before .before .before .before .before .before .before .before .before .before .args .nodes) × (c .before .before .before .before .before .before .before .before .before .before .before .before .before .before .args .nodes ≤ mostNodes)
 node c =
     let p = c .before .before .before .before .before .before .before .before .before .before .before .before .before .before .pre in
     let few = p .0 .lanes .few-nodes in
