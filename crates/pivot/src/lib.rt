@@ -22,6 +22,7 @@ use crate::enter::best_entry;
 use crate::enter::block_of;
 use crate::tree::hang_all;
 use crate::tree::list_all;
+use crate::tree::set_mark;
 use crate::turn::Hold;
 use crate::turn::NO_LIMIT;
 use crate::turn::find_least;
@@ -29,20 +30,19 @@ use crate::turn::move_part;
 use crate::turn::move_round;
 use crate::turn::turn_part;
 use crate::ways::FAR;
-use crate::ways::load_from_root;
-use crate::ways::load_to_root;
-use crate::ways::unload_all;
+use crate::ways::load_all;
 use crate::ways::ways_from_root;
 use crate::ways::ways_to_root;
 use std::num::wrapping_add_u64;
 use std::num::wrapping_sub_u64;
+ghost use Rattle.pivot.specs.Sizes.{PerNode, PerEdge};
 
 // How many nodes and edges a network can have.
 pub const NODES: usize = 129;
 
 pub const EDGES: usize = 464;
 
-// The node of the entering edge that moves to the other side, and how the marks of its part change.
+// The end of the entering edge that moves with its part to the other end (the root: none does), and how the marks of the part change.
 struct Move {
     node: usize,
     onto: usize,
@@ -66,39 +66,42 @@ fn mover(u: usize, v: usize, ahead: bool, gain: u64) -> Move {
     }
 }
 
-// One pivot: edge e enters the tree, what can be moved round goes round, and an edge with nothing left on it leaves the tree. False where the way round
-// has no limit.
-fn pivot(
+// Edge e enters the tree, what can be moved round goes round, and an edge with nothing left on it leaves the tree. No part moves where the way round has no
+// limit.
+fn exchange(
     e: usize,
     gain: u64,
     from: &[usize; EDGES],
     to: &[usize; EDGES],
-    mark: &mut [u64; NODES],
     by: &mut [u16; NODES],
     up: &mut [bool; NODES],
     flow: &mut [u64; NODES],
     parent: &mut [u16; NODES],
-    depth: &mut [u16; NODES],
+    depth: &[u16; NODES],
     child: &mut [u16; NODES],
     after: &mut [u16; NODES],
     before: &mut [u16; NODES],
-) -> bool {
+) -> Move {
     let u = node(from[edge(e)]);
     let v = node(to[edge(e)]);
     let found = find_least(u, v, parent, depth, up, flow);
     if found.least == NO_LIMIT {
-        return false;
+        return Move {
+            node: 0,
+            onto: 0,
+            change: 0,
+        };
     }
     move_round(u, v, found.back, found.least, parent, up, flow);
-    let moves = mover(u, v, found.ahead, gain);
+    let part = mover(u, v, found.ahead, gain);
     let hold = Hold {
-        parent: moves.onto,
+        parent: part.onto,
         by: narrow(e),
         up: !found.ahead,
         flow: found.least,
     };
     turn_part(
-        moves.node,
+        part.node,
         found.cut,
         hold,
         parent,
@@ -109,11 +112,10 @@ fn pivot(
         after,
         before,
     );
-    move_part(moves.node, moves.change, parent, child, after, depth, mark);
-    true
+    part
 }
 
-// Lets edges with a slack below 0 enter the tree until there is none. False where `fuel` pivots are not enough.
+// Lets edges with a slack below 0 enter the tree until there is none. False where `fuel` of them are not enough.
 fn improve(
     nodes: usize,
     edges: usize,
@@ -125,7 +127,10 @@ fn improve(
     up: &mut [bool; NODES],
     flow: &mut [u64; NODES],
     mark: &mut [u64; NODES],
-) -> bool {
+) -> bool
+    requires { ⌜ PerNode (now mark) ⌝ }
+    ensures { λ _. ⌜ PerNode (now (mark .exit)) ⌝ }
+{
     let mut parent = [0u16; NODES];
     let mut depth = [1u16; NODES];
     depth[0] = 0;
@@ -141,23 +146,32 @@ fn improve(
         if entry.gain == 0 {
             return true;
         }
-        if !pivot(
+        let part = exchange(
             entry.edge,
             entry.gain,
             from,
             to,
-            mark,
             by,
             up,
             flow,
             &mut parent,
-            &mut depth,
+            &depth,
             &mut child,
             &mut after,
             &mut before,
-        ) {
+        );
+        if part.node == 0 {
             return false;
         }
+        move_part(
+            part.node,
+            part.change,
+            &parent,
+            &child,
+            &after,
+            &mut depth,
+            mark,
+        );
         start = entry.next;
         left -= 1;
     }
@@ -167,17 +181,47 @@ fn improve(
 // Marks are held with this added while the tree is improved, so that none falls below 0.
 const LIFT: u64 = 1_125_899_906_842_624;
 
-fn lower_marks(nodes: usize, mark: &mut [u64; NODES]) {
+fn lower_marks(nodes: usize, mark: &mut [u64; NODES])
+    requires { ⌜ PerNode (now mark) ⌝ }
+    ensures { λ _. ⌜ PerNode (now (mark .exit)) ⌝ }
+{
     let mut u: usize = 0;
     while u < nodes {
-        let here = node(u);
-        mark[here] = wrapping_sub_u64(mark[here], LIFT);
+        set_mark(u, wrapping_sub_u64(mark[node(u)], LIFT), mark);
         u += 1;
     }
 }
 
+// Finds the best tree, from the one in which every node hangs on the root by its shortcut.
+fn best_tree(
+    nodes: usize,
+    edges: usize,
+    fuel: usize,
+    from: &[usize; EDGES],
+    to: &[usize; EDGES],
+    cost: &[u64; EDGES],
+    arrive: &[u64; NODES],
+    leave: &[u64; NODES],
+    surplus: &[u64; NODES],
+    deficit: &[u64; NODES],
+    by: &mut [u16; NODES],
+    up: &mut [bool; NODES],
+    flow: &mut [u64; NODES],
+    mark: &mut [u64; NODES],
+) -> bool
+    requires { ⌜ PerNode (now mark) ⌝ }
+    ensures { λ _. ⌜ PerNode (now (mark .exit)) ⌝ }
+{
+    set_mark(0, wrapping_add_u64(mark[0], LIFT), mark);
+    hang_all(nodes, arrive, leave, surplus, deficit, up, flow, mark);
+    let best = improve(nodes, edges, fuel, from, to, cost, by, up, flow, mark);
+    lower_marks(nodes, mark);
+    best
+}
+
 // Guesses loads and marks that carry every surplus to the deficits at the lowest cost. The root is node 0, its mark stays, and the loads are 0 before;
-// `head` and `next` are the chains of the edges that leave each node. True where the guess was brought to its end within `fuel` pivots.
+// `head` and `next` are the chains of the edges that leave each node. True where the guess was brought to its end: where `fuel` edges at the most entered
+// the tree.
 pub fn guess(
     nodes: usize,
     edges: usize,
@@ -191,7 +235,10 @@ pub fn guess(
     deficit: &[u64; NODES],
     load: &mut [u64; EDGES],
     mark: &mut [u64; NODES],
-) -> bool {
+) -> bool
+    requires { ⌜ PerEdge (now load) × PerNode (now mark) ⌝ }
+    ensures { λ _. ⌜ PerEdge (now (load .exit)) × PerNode (now (mark .exit)) ⌝ }
+{
     let mut arrive = [FAR; NODES];
     let mut last = [0u16; NODES];
     ways_from_root(nodes, to, cost, head, next, &mut arrive, &mut last);
@@ -201,36 +248,24 @@ pub fn guess(
     let mut by = [narrow(EDGES); NODES];
     let mut up = [false; NODES];
     let mut flow = [0u64; NODES];
-    mark[0] = wrapping_add_u64(mark[0], LIFT);
-    hang_all(
-        nodes,
-        &arrive,
-        &leave,
-        surplus,
-        deficit,
-        &mut up,
-        &mut flow,
-        mark,
-    );
-    if !improve(
+    if best_tree(
         nodes,
         edges,
         fuel,
         from,
         to,
         cost,
+        &arrive,
+        &leave,
+        surplus,
+        deficit,
         &mut by,
         &mut up,
         &mut flow,
         mark,
     ) {
-        return false;
+        load_all(nodes, from, to, &last, &first, &by, &up, &flow, load);
+        return true;
     }
-    lower_marks(nodes, mark);
-    let mut arriving = [0u64; NODES];
-    let mut leaving = [0u64; NODES];
-    unload_all(nodes, &by, &up, &flow, load, &mut arriving, &mut leaving);
-    load_from_root(nodes, from, &last, load, &mut arriving);
-    load_to_root(nodes, to, &first, load, &mut leaving);
-    true
+    false
 }

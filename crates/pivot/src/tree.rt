@@ -7,6 +7,15 @@ use crate::cut::node;
 use crate::cut::wide;
 use std::num::wrapping_add_u64;
 use std::num::wrapping_sub_u64;
+ghost use Rattle.pivot.specs.Sizes.{PerNode};
+
+// Gives u a mark. Only here marks are stored, so that it is shown once that their array stays as long as it is.
+pub fn set_mark(u: usize, value: u64, mark: &mut [u64; NODES])
+    requires { ⌜ PerNode (now mark) ⌝ }
+    ensures { λ _. ⌜ PerNode (now (mark .exit)) ⌝ }
+{
+    mark[node(u)] = value;
+}
 
 // Hangs u on the root by its shortcut: from the root where it has a deficit, and else to the root. What has to move lies on it, and the marks make it tight.
 fn hang(
@@ -18,16 +27,19 @@ fn hang(
     up: &mut [bool; NODES],
     flow: &mut [u64; NODES],
     mark: &mut [u64; NODES],
-) {
+)
+    requires { ⌜ PerNode (now mark) ⌝ }
+    ensures { λ _. ⌜ PerNode (now (mark .exit)) ⌝ }
+{
     let here = node(u);
     if deficit > 0 {
         up[here] = false;
         flow[here] = deficit;
-        mark[here] = wrapping_add_u64(mark[0], arrive);
+        set_mark(u, wrapping_add_u64(mark[0], arrive), mark);
     } else {
         up[here] = true;
         flow[here] = surplus;
-        mark[here] = wrapping_sub_u64(mark[0], leave);
+        set_mark(u, wrapping_sub_u64(mark[0], leave), mark);
     }
 }
 
@@ -41,7 +53,10 @@ pub fn hang_all(
     up: &mut [bool; NODES],
     flow: &mut [u64; NODES],
     mark: &mut [u64; NODES],
-) {
+)
+    requires { ⌜ PerNode (now mark) ⌝ }
+    ensures { λ _. ⌜ PerNode (now (mark .exit)) ⌝ }
+{
     let mut u: usize = 1;
     while u < nodes {
         let here = node(u);

@@ -4,10 +4,12 @@ use crate::cut::narrow;
 use crate::cut::node;
 use crate::cut::wide;
 use crate::tree::link;
+use crate::tree::set_mark;
 use crate::tree::unlink;
 use std::num::wrapping_add_u16;
 use std::num::wrapping_add_u64;
 use std::num::wrapping_sub_u64;
+ghost use Rattle.pivot.specs.Sizes.{PerNode};
 
 // More than any flow.
 pub const NO_LIMIT: u64 = 18_446_744_073_709_551_615;
@@ -275,7 +277,10 @@ pub fn move_part(
     after: &[u16; NODES],
     depth: &mut [u16; NODES],
     mark: &mut [u64; NODES],
-) {
+)
+    requires { ⌜ PerNode (now mark) ⌝ }
+    ensures { λ _. ⌜ PerNode (now (mark .exit)) ⌝ }
+{
     let mut stack = [0u16; NODES];
     let mut visit = Visit { at: w, waiting: 0 };
     let mut left = NODES;
@@ -284,7 +289,7 @@ pub fn move_part(
         if here == 0 {
             return;
         }
-        mark[here] = wrapping_add_u64(mark[here], change);
+        set_mark(here, wrapping_add_u64(mark[here], change), mark);
         depth[here] = wrapping_add_u16(depth[node(wide(parent[here]))], 1);
         visit = next_visit(
             visit,

@@ -8,6 +8,7 @@ use crate::cut::narrow;
 use crate::cut::node;
 use crate::cut::wide;
 use std::num::wrapping_add_u64;
+ghost use Rattle.pivot.specs.Sizes.{PerEdge};
 
 // A node that no way is known for yet is this far from the root: further than any way.
 pub const FAR: u64 = 1_099_511_627_776;
@@ -106,6 +107,14 @@ pub fn ways_to_root(
     }
 }
 
+// Puts a load on e. Only here loads are stored, so that it is shown once that their array stays as long as it is.
+fn set_load(e: usize, amount: u64, load: &mut [u64; EDGES])
+    requires { ⌜ PerEdge (now load) ⌝ }
+    ensures { λ _. ⌜ PerEdge (now (load .exit)) ⌝ }
+{
+    load[edge(e)] = amount;
+}
+
 // What the tree holds for node u: a load where its edge is an edge of the network, and else an amount to carry from the root or to it.
 fn unload(
     u: usize,
@@ -115,10 +124,13 @@ fn unload(
     load: &mut [u64; EDGES],
     arriving: &mut [u64; NODES],
     leaving: &mut [u64; NODES],
-) {
+)
+    requires { ⌜ PerEdge (now load) ⌝ }
+    ensures { λ _. ⌜ PerEdge (now (load .exit)) ⌝ }
+{
     let e = wide(number);
     if e < EDGES {
-        load[e] = amount;
+        set_load(e, amount, load);
         return;
     }
     if up {
@@ -129,7 +141,7 @@ fn unload(
 }
 
 // Takes what the tree holds off it.
-pub fn unload_all(
+fn unload_all(
     nodes: usize,
     by: &[u16; NODES],
     up: &[bool; NODES],
@@ -137,7 +149,10 @@ pub fn unload_all(
     load: &mut [u64; EDGES],
     arriving: &mut [u64; NODES],
     leaving: &mut [u64; NODES],
-) {
+)
+    requires { ⌜ PerEdge (now load) ⌝ }
+    ensures { λ _. ⌜ PerEdge (now (load .exit)) ⌝ }
+{
     let mut u: usize = 1;
     while u < nodes {
         let here = node(u);
@@ -147,21 +162,26 @@ pub fn unload_all(
 }
 
 // An amount goes over edge e, and from the edge's other end v on.
-fn pass_on(e: usize, v: usize, amount: u64, load: &mut [u64; EDGES], waiting: &mut [u64; NODES]) {
-    let here = edge(e);
+fn pass_on(e: usize, v: usize, amount: u64, load: &mut [u64; EDGES], waiting: &mut [u64; NODES])
+    requires { ⌜ PerEdge (now load) ⌝ }
+    ensures { λ _. ⌜ PerEdge (now (load .exit)) ⌝ }
+{
     let there = node(v);
-    load[here] = wrapping_add_u64(load[here], amount);
+    set_load(e, wrapping_add_u64(load[edge(e)], amount), load);
     waiting[there] = wrapping_add_u64(waiting[there], amount);
 }
 
 // Loads the cheapest ways from the root with what arrives at their ends, back from the last edge.
-pub fn load_from_root(
+fn load_from_root(
     nodes: usize,
     from: &[usize; EDGES],
     last: &[u16; NODES],
     load: &mut [u64; EDGES],
     arriving: &mut [u64; NODES],
-) {
+)
+    requires { ⌜ PerEdge (now load) ⌝ }
+    ensures { λ _. ⌜ PerEdge (now (load .exit)) ⌝ }
+{
     let mut u = nodes;
     while u > 1 {
         u -= 1;
@@ -172,13 +192,16 @@ pub fn load_from_root(
 }
 
 // Loads the cheapest ways to the root with what leaves their beginnings, on from the first edge.
-pub fn load_to_root(
+fn load_to_root(
     nodes: usize,
     to: &[usize; EDGES],
     first: &[u16; NODES],
     load: &mut [u64; EDGES],
     leaving: &mut [u64; NODES],
-) {
+)
+    requires { ⌜ PerEdge (now load) ⌝ }
+    ensures { λ _. ⌜ PerEdge (now (load .exit)) ⌝ }
+{
     let mut u: usize = 1;
     while u < nodes {
         let here = node(u);
@@ -186,4 +209,26 @@ pub fn load_to_root(
         pass_on(e, to[e], leaving[here], load, leaving);
         u += 1;
     }
+}
+
+// The loads of the tree: what it holds, with what goes along the shortcuts laid on the ways that they stand for.
+pub fn load_all(
+    nodes: usize,
+    from: &[usize; EDGES],
+    to: &[usize; EDGES],
+    last: &[u16; NODES],
+    first: &[u16; NODES],
+    by: &[u16; NODES],
+    up: &[bool; NODES],
+    flow: &[u64; NODES],
+    load: &mut [u64; EDGES],
+)
+    requires { ⌜ PerEdge (now load) ⌝ }
+    ensures { λ _. ⌜ PerEdge (now (load .exit)) ⌝ }
+{
+    let mut arriving = [0u64; NODES];
+    let mut leaving = [0u64; NODES];
+    unload_all(nodes, by, up, flow, load, &mut arriving, &mut leaving);
+    load_from_root(nodes, from, last, load, &mut arriving);
+    load_to_root(nodes, to, first, load, &mut leaving);
 }

@@ -1,11 +1,13 @@
 -- `pivot::improve` is safe and ends. Each pivot takes from the fuel. Assumes nothing.
 use Prim.Native.Nat.{_≤_}
+use Rattle.pivot.specs.Sizes.{PerNode}
+use native.Mathlib.Omega.{arith}
 use borrow.Author.Needs.{needs}
 use Rattle.pivot.proofs.improve.Statement.{statement}
 use Rattle.pivot.proofs.improve.Tie as tie
 
 abbrev Inv-loop : tie.InvT-loop
-Inv-loop nodes edges fuel from to cost by₀ up₀ flow₀ mark₀ parent₀ depth₀ child₀ after₀ before₀ block start₀ left₀ by up flow mark parent depth child after before start left = left ≤ fuel
+Inv-loop nodes edges fuel from to cost by₀ up₀ flow₀ mark₀ parent₀ depth₀ child₀ after₀ before₀ block start₀ left₀ by up flow mark parent depth child after before start left = (left ≤ fuel) × PerNode mark
 
 abbrev μ-loop : tie.MeasureT-loop
 μ-loop nodes edges fuel from to cost by₀ up₀ flow₀ mark₀ parent₀ depth₀ child₀ after₀ before₀ block start₀ left₀ by up flow mark parent depth child after before start left = left
@@ -28,20 +30,23 @@ best-entry-requires c κs = search needs
 returns : tie.Need-returns Inv-loop μ-loop
 returns c = search needs
 
-pivot-requires : tie.Need-pivot-requires Inv-loop μ-loop
-pivot-requires c κs = search needs
+exchange-requires : tie.Need-exchange-requires Inv-loop μ-loop
+exchange-requires c κs = search needs
 
 returns-2 : tie.Need-returns-2 Inv-loop μ-loop
 returns-2 c = search needs
 
+move-part-requires : tie.Need-move-part-requires Inv-loop μ-loop
+move-part-requires c κs = c .before .before .before .before .before .before .before .before .before .before .before .before .before .before .before .before .before .before .before .before .before .loop .inv .1
+
 sub-left : tie.Need-sub-left Inv-loop μ-loop
-sub-left c = search needs
+sub-left c = omega (arith, c .before .before .before .before .before .before .before .before .before .before .before .before .before .before .before .before .before .before .before .before .before .loop-test .taken)
 
 loop-less : tie.Need-loop-less Inv-loop μ-loop
-loop-less c = search needs
+loop-less c = omega (arith, c .before .before .before .before .before .before .before .before .before .before .before .before .before .before .before .before .before .before .before .before .before .loop-test .taken)
 
 loop-again : tie.Need-loop-again Inv-loop μ-loop
-loop-again c = search needs
+loop-again c = (omega (arith, c .before .before .before .before .before .before .before .before .before .before .before .before .before .before .before .before .before .before .before .before .before .before .loop .inv .0), c .move-part .ensures)
 
 returns-3 : tie.Need-returns-3 Inv-loop μ-loop
 returns-3 c = search needs
@@ -58,8 +63,9 @@ improve-spec =
     loop-holds
     best-entry-requires
     returns
-    pivot-requires
+    exchange-requires
     returns-2
+    move-part-requires
     sub-left
     loop-less
     loop-again

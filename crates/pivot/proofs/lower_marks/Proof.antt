@@ -1,11 +1,12 @@
 -- `pivot::lower_marks` is safe and ends. The loop counts up. Assumes nothing.
 use Prim.Native.Nat.{_≤_, _-_}
+use Rattle.pivot.specs.Sizes.{PerNode}
 use borrow.Author.Needs.{needs}
 use Rattle.pivot.proofs.lower_marks.Statement.{statement}
 use Rattle.pivot.proofs.lower_marks.Tie as tie
 
 abbrev Inv-loop : tie.InvT-loop
-Inv-loop nodes mark₀ u₀ mark u = u ≤ nodes
+Inv-loop nodes mark₀ u₀ mark u = (u ≤ nodes) × PerNode mark
 
 abbrev μ-loop : tie.MeasureT-loop
 μ-loop nodes mark₀ u₀ mark u = nodes - u
@@ -25,11 +26,8 @@ element-copy-out-wrapping-sub-u64 c = search needs
 wrapping-sub-u64-requires : tie.Need-wrapping-sub-u64-requires Inv-loop μ-loop
 wrapping-sub-u64-requires c κs = search needs
 
-mul-mark : tie.Need-mul-mark Inv-loop μ-loop
-mul-mark c = search needs
-
-element-write-mark : tie.Need-element-write-mark Inv-loop μ-loop
-element-write-mark c = search needs
+set-mark-requires : tie.Need-set-mark-requires Inv-loop μ-loop
+set-mark-requires c κs = search needs
 
 add-u : tie.Need-add-u Inv-loop μ-loop
 add-u c = search needs
@@ -54,8 +52,7 @@ lower-marks-spec =
     mul-wrapping-sub-u64
     element-copy-out-wrapping-sub-u64
     wrapping-sub-u64-requires
-    mul-mark
-    element-write-mark
+    set-mark-requires
     add-u
     loop-less
     loop-again

@@ -1,11 +1,12 @@
 -- `pivot::tree::hang_all` is safe and ends. The loop counts up. Assumes nothing.
 use Prim.Native.Nat.{_≤_, _-_}
+use Rattle.pivot.specs.Sizes.{PerNode}
 use borrow.Author.Needs.{needs}
 use Rattle.pivot.proofs.tree.hang_all.Statement.{statement}
 use Rattle.pivot.proofs.tree.hang_all.Tie as tie
 
 abbrev Inv-loop : tie.InvT-loop
-Inv-loop nodes arrive leave surplus deficit up₀ flow₀ mark₀ u₀ up flow mark u = u₀ ≤ u
+Inv-loop nodes arrive leave surplus deficit up₀ flow₀ mark₀ u₀ up flow mark u = (u₀ ≤ u) × PerNode mark
 
 abbrev μ-loop : tie.MeasureT-loop
 μ-loop nodes arrive leave surplus deficit up₀ flow₀ mark₀ u₀ up flow mark u = nodes - u

@@ -1,11 +1,12 @@
 -- `pivot::turn::move_part` is safe and ends. The walk counts its steps. Assumes nothing.
 use Prim.Native.Nat.{_≤_}
+use Rattle.pivot.specs.Sizes.{PerNode}
 use borrow.Author.Needs.{needs}
 use Rattle.pivot.proofs.turn.move_part.Statement.{statement}
 use Rattle.pivot.proofs.turn.move_part.Tie as tie
 
 abbrev Inv-loop : tie.InvT-loop
-Inv-loop w change parent child after depth₀ mark₀ stack₀ visit₀ left₀ depth mark stack visit left = left ≤ left₀
+Inv-loop w change parent child after depth₀ mark₀ stack₀ visit₀ left₀ depth mark stack visit left = (left ≤ left₀) × PerNode mark
 
 abbrev μ-loop : tie.MeasureT-loop
 μ-loop w change parent child after depth₀ mark₀ stack₀ visit₀ left₀ depth mark stack visit left = left
@@ -28,11 +29,8 @@ element-copy-out-wrapping-add-u64 c = search needs
 wrapping-add-u64-requires : tie.Need-wrapping-add-u64-requires Inv-loop μ-loop
 wrapping-add-u64-requires c κs = search needs
 
-mul-mark : tie.Need-mul-mark Inv-loop μ-loop
-mul-mark c = search needs
-
-element-write-mark : tie.Need-element-write-mark Inv-loop μ-loop
-element-write-mark c = search needs
+set-mark-requires : tie.Need-set-mark-requires Inv-loop μ-loop
+set-mark-requires c κs = search needs
 
 mul-wide : tie.Need-mul-wide Inv-loop μ-loop
 mul-wide c = search needs
@@ -109,8 +107,7 @@ move-part-spec =
     mul-wrapping-add-u64
     element-copy-out-wrapping-add-u64
     wrapping-add-u64-requires
-    mul-mark
-    element-write-mark
+    set-mark-requires
     mul-wide
     element-copy-out-wide
     wide-requires

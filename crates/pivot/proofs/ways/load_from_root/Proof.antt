@@ -1,11 +1,12 @@
 -- `pivot::ways::load_from_root` is safe and ends. The loop counts down. Assumes nothing.
 use Prim.Native.Nat.{_≤_}
+use Rattle.pivot.specs.Sizes.{PerEdge}
 use borrow.Author.Needs.{needs}
 use Rattle.pivot.proofs.ways.load_from_root.Statement.{statement}
 use Rattle.pivot.proofs.ways.load_from_root.Tie as tie
 
 abbrev Inv-loop : tie.InvT-loop
-Inv-loop nodes from last load₀ arriving₀ u₀ load arriving u = u ≤ nodes
+Inv-loop nodes from last load₀ arriving₀ u₀ load arriving u = (u ≤ nodes) × PerEdge load
 
 abbrev μ-loop : tie.MeasureT-loop
 μ-loop nodes from last load₀ arriving₀ u₀ load arriving u = u

@@ -1,11 +1,12 @@
 -- `pivot::ways::load_to_root` is safe and ends. The loop counts up. Assumes nothing.
 use Prim.Native.Nat.{_≤_, _-_}
+use Rattle.pivot.specs.Sizes.{PerEdge}
 use borrow.Author.Needs.{needs}
 use Rattle.pivot.proofs.ways.load_to_root.Statement.{statement}
 use Rattle.pivot.proofs.ways.load_to_root.Tie as tie
 
 abbrev Inv-loop : tie.InvT-loop
-Inv-loop nodes to first load₀ leaving₀ u₀ load leaving u = u₀ ≤ u
+Inv-loop nodes to first load₀ leaving₀ u₀ load leaving u = (u₀ ≤ u) × PerEdge load
 
 abbrev μ-loop : tie.MeasureT-loop
 μ-loop nodes to first load₀ leaving₀ u₀ load leaving u = nodes - u

@@ -1,11 +1,12 @@
 -- `pivot::ways::unload_all` is safe and ends. The loop counts up. Assumes nothing.
 use Prim.Native.Nat.{_≤_, _-_}
+use Rattle.pivot.specs.Sizes.{PerEdge}
 use borrow.Author.Needs.{needs}
 use Rattle.pivot.proofs.ways.unload_all.Statement.{statement}
 use Rattle.pivot.proofs.ways.unload_all.Tie as tie
 
 abbrev Inv-loop : tie.InvT-loop
-Inv-loop nodes by up flow load₀ arriving₀ leaving₀ u₀ load arriving leaving u = u₀ ≤ u
+Inv-loop nodes by up flow load₀ arriving₀ leaving₀ u₀ load arriving leaving u = (u₀ ≤ u) × PerEdge load
 
 abbrev μ-loop : tie.MeasureT-loop
 μ-loop nodes by up flow load₀ arriving₀ leaving₀ u₀ load arriving leaving u = nodes - u
