@@ -10,8 +10,10 @@ use lib.Dec.{eqb}
 use lib.ListN.{length, getD, drop, set, length-set, length-drop, drop-of-length-le, replicate, length-replicate}
 use lib.Seq.{drop-cons}
 use borrow.Author.Tests.{eqb-true}
-use Rattle.mathematics.specs.Cover.{Item, vert, arc, sameItem, oneIf, countOf, trail, through}
+use Rattle.mathematics.specs.Cover.{Item, vert, arc, sameItem, oneIf, countOf, trail}
 use Rattle.mathematics.specs.Bound.{readsThrough}
+use Rattle.mathematics.proofs.Basics.{all-at, at-all}
+use Rattle.mathematics.proofs.Items.{reads-few}
 use Rattle.forms.specs.declared.Found.the-variants.{At, Missing}
 use Rattle.forms.specs.Limits.{maxVertices, maxArcs}
 use Rattle.forms.specs.GraphForm.{arcCount, arcAt, arcTail, arcHead}
@@ -19,12 +21,12 @@ use Rattle.forms.specs.GraphOf.{arcsOf, arcItem}
 use Rattle.forms.specs.GraphReads.{ArcsRight}
 use Rattle.forms.specs.ArcTable.{arcNumber}
 use Rattle.certify.specs.Growth.{onward, Grown}
-use Rattle.reads.specs.ReadTable.{rowAt, rowsOf, RowHolds, TableHolds}
+use Rattle.reads.specs.ReadTable.{rowAt, rowsOf, RowHolds, TableHolds, rowLength}
 use Rattle.certify.specs.Certify.{CountsLow, ArcPassed, Counted}
 use Rattle.certify.proofs.GrowthLaws.{found-arc, only-arc, grow, count-few, trail-onward, length-onward}
 use Rattle.forms.proofs.Lookup.{found-iff-goes}
 use Rattle.mathematics.specs.Lists.{All}
-use Rattle.reads.proofs.TableLaws.{row-get, at-all, all-at}
+use Rattle.reads.proofs.TableLaws.{row-get}
 use Rattle.reads.proofs.TableRows.{table-length, table-get, table-from, table-row}
 
 module _ (s : List ℕ) (right : ArcsRight s) (u v : ℕ) (counts : List ℕ) (long : length counts ≡ maxArcs) where
@@ -137,21 +139,12 @@ count-end {s} {row} {vb} {va} {ab} {aa} {f} {u} {k} c h some e inside =
     split : trail row ≡ vert f ∷ onward f (drop 1 row)
     split = ap trail (headed row some) ∙ (rw e (trail-onward (getD row 0 0) (drop 1 row)))
 
--- a number that is read of a row of the table is one of its read's, and below 64
+-- a number that is read of a row of the table is one of its read's, and below the number of vertices
 pub row-number : (rows : List (List ℕ)) (lens : List ℕ) (i k v : ℕ) → RowHolds rows lens i → k < getD lens i 0 → v ≡ getD (getD rows i []) k 0 →
     (v ≡ getD (rowAt rows lens i) k 0) × (v < maxVertices)
 row-number rows lens i k v r h e =
     let same : v ≡ getD (rowAt rows lens i) k 0 = e ∙ sym (row-get rows lens i k h) in
-    (same, omega (arith, at-all (λ (w : ℕ). w < 64) 0 (rowAt rows lens i) (r .read .below) k (omega (arith, r .long))))
-
--- a read passes an item at most twice for each of its vertices, so reads of up to 64 vertices pass it at most 128 times each
-through-few : (i : Item) (row : List ℕ) → length row ≤ 64 → through i row ≤ 128
-through-few i [] h = omega arith
-through-few i (u ∷ q) h = omega (arith, count-few i (trail (u ∷ q)), ap length (trail-onward u q), length-onward u q)
-
-reads-few : (i : Item) (rs : List (List ℕ)) → All (λ r. length r ≤ 64) rs → readsThrough i rs ≤ 128 * length rs
-reads-few i [] h = omega arith
-reads-few i (r ∷ rs) h = omega (arith, through-few i r (h .0), reads-few i rs (h .1))
+    (same, omega (arith, at-all (λ (w : ℕ). w < rowLength) 0 (rowAt rows lens i) (r .read .below) k (omega (arith, r .long))))
 
 -- Of the table's reads those from row i on are left: with what they add, the counts are those of all.
 pub record ReadsLeft (s : List ℕ) (rs : List (List ℕ)) (vr ar : List ℕ) (i : ℕ) : Type 0 where
@@ -170,16 +163,16 @@ reads-begin rs low =
     }
 
 module _ {s vr ar : List ℕ} {rows : List (List ℕ)} {lens : List ℕ} {count i : ℕ} (t : TableHolds rows lens count) (left : ReadsLeft s (rowsOf rows lens count) vr ar i) where
-  short : All (λ r. length r ≤ 64) (rowsOf rows lens count)
+  short : All (λ r. length r ≤ rowLength) (rowsOf rows lens count)
   short =
-      all-at (λ (r : List ℕ). length r ≤ 64) [] (rowsOf rows lens count)
+      all-at (λ (r : List ℕ). length r ≤ rowLength) [] (rowsOf rows lens count)
       (λ k h.
       let inside : k < count = omega (arith, table-length rows lens count t) in
       let row = table-row rows lens count t k inside in
       omega (arith, ap length (table-get rows lens count t k inside), row .long, row .fit))
 
   few : (j : Item) → readsThrough j (rowsOf rows lens count) ≤ 10000
-  few j = omega (arith, reads-few j (rowsOf rows lens count) short, table-length rows lens count t, t .counted)
+  few j = omega (arith, reads-few rowLength j (rowsOf rows lens count) short, table-length rows lens count t, t .counted)
 
   pub reads-low : CountsLow s vr ar 10000
   reads-low =

@@ -15,8 +15,7 @@ use Rattle.forms.specs.Bytes.{part}
 use Rattle.forms.specs.GraphForm.{readCount, firstReadAt, readLength, readVertices, readEnd}
 use Rattle.forms.specs.GraphOf.{graphOf, readsFrom, arcsOf}
 use Rattle.forms.specs.GraphReads.{Reads, ReadRight, ReadsRight}
-use Rattle.reads.specs.ReadTable.{rowsOf, used, ReadHolds, Leaves}
-use Rattle.certify.specs.Certify.{TableSized}
+use Rattle.reads.specs.ReadTable.{rowsOf, used, ReadHolds, Leaves, TableSized}
 use Rattle.forms.proofs.GraphFacts.{all-reads, read-length, graph-well-formed}
 use Rattle.reads.proofs.TableLaws.{rising-climbs}
 use Rattle.reads.proofs.TableRows.{used-set, used-rows}

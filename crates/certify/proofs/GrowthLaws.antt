@@ -1,6 +1,6 @@
 -- Which arc a pair of vertices is, and how a total grows by what a walk passes: for the reads that are counted, and for the paths that the checker tallies.
-use Prim.Native.Nat.{ℕ, zero, suc, _+_, _*_, _<_, _≤_}
-use native.Mathlib.Nat.{le-refl, zero-add, mul-one, mul-add}
+use Prim.Native.Nat.{ℕ, zero, suc, _+_, _*_, _<_}
+use native.Mathlib.Nat.{zero-add, mul-one, mul-add}
 use native.Mathlib.Decide.{decLt, ℕ-discrete}
 use native.Mathlib.Omega.{arith}
 use mathlib.Core.Path.{_≡_, refl, sym, ap, _∙_}
@@ -13,7 +13,8 @@ use lib.IntN.{pos}
 use borrow.Author.Tests.{eq-eqb, ne-eqb, eqb-true}
 use Rattle.mathematics.specs.Price.{whole}
 use Rattle.mathematics.specs.Graph.{joins, hasArc}
-use Rattle.mathematics.specs.Cover.{Item, vert, arc, sameItem, oneIf, countOf, trail, costOf}
+use Rattle.mathematics.specs.Cover.{Item, vert, arc, sameItem, oneIf, trail, costOf}
+pub use Rattle.mathematics.proofs.Items.{count-few}
 use Rattle.forms.specs.declared.Found.the-variants.{At}
 use Rattle.forms.specs.Bytes.{tabulate}
 use Rattle.forms.specs.GraphForm.{arcCount, arcAt, arcTail, arcHead, arcCost}
@@ -87,15 +88,6 @@ grow l i w x c h = go (ℕ-discrete x i)
     go : Dec (x ≡ i) → getD (set l i (getD l i 0 + w)) x 0 + w * c ≡ getD l x 0 + w * (oneIf (eqb x i) + c)
     go (yes e) = rw (e, getD-set-same l i (getD l i 0 + w) 0 h, eq-eqb i i refl, mul-add, mul-one) (omega arith)
     go (no e) = rw (getD-set-other l i x (getD l i 0 + w) 0 e, ne-eqb x i e, zero-add)
-
--- an item is among the items at most as often as there are items
-pub count-few : (i : Item) (js : List Item) → countOf i js ≤ length js
-count-few i [] = le-refl 0
-count-few i (j ∷ js) = go (sameItem i j) (count-few i js)
-  where
-    go : (b : Bool) → countOf i js ≤ length js → oneIf b + countOf i js ≤ suc (length js)
-    go true h = omega arith
-    go false h = omega arith
 
 pub length-onward : (u : ℕ) (q : List ℕ) → length (onward u q) ≡ 2 * length q
 length-onward u [] = refl

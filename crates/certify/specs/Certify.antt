@@ -7,7 +7,6 @@ use lib.Dec.{leb}
 use lib.ListN.{length, getD}
 use lib.IntN.{natAbs}
 use Rattle.mathematics.specs.Price.{whole}
-use Rattle.mathematics.specs.Lists.{All}
 use Rattle.mathematics.specs.Cover.{vert, arc, sameItem, oneIf}
 use Rattle.mathematics.specs.Bound.{readsThrough, vertexSlack, arcSlack, vertexSlacksHold, arcSlackHolds}
 use Rattle.forms.specs.Limits.{maxVertices, maxArcs}
@@ -82,12 +81,6 @@ arcPart s t a reads = (arcDemand s (arcAt s a) - reads + reads) * natAbs (arcSla
 unfoldable pub sumFrom : (ℕ → ℕ) → ℕ → ℕ → ℕ
 sumFrom f zero first = 0
 sumFrom f (suc count) first = f first + sumFrom f count (suc first)
-
--- a table of reads, whatever is in it: 16 rows of 64, and 16 lengths
-pub record TableSized (rows : List (List ℕ)) (lens : List ℕ) : Type 0 where
-  pub tall : length rows ≡ 16
-  pub wide : All (λ r. length r ≡ 64) rows
-  pub sized : length lens ≡ 16
 
 -- no count is above a number, so that counting on does not run over
 pub record CountsLow (s vertexReads arcReads : List ℕ) (most : ℕ) : Type 0 where

@@ -31,7 +31,7 @@ ghost use Rattle.mathematics.specs.Bound.{bound};
 ghost use Rattle.forms.specs.GraphForm.{vertexCount, arcCount, readCount};
 ghost use Rattle.forms.specs.Bytes.{part};
 ghost use Rattle.forms.specs.GraphOf.{graphOf};
-ghost use Rattle.reads.specs.ReadTable.{rowAt, rowsOf, RowHolds, TableHolds, Leaves};
+ghost use Rattle.reads.specs.ReadTable.{rowAt, rowsOf, RowHolds, TableHolds, Leaves, TableSized};
 ghost use Rattle.forms.specs.ArcTable.{ArcTable};
 ghost use Rattle.forms.specs.Limits.{maxVertices, maxArcs};
 ghost use Rattle.certify.specs.Growth.{Grown};
@@ -39,7 +39,7 @@ ghost use Rattle.mathematics.specs.Cover.{trail};
 ghost use Rattle.forms.specs.GraphReads.{Reads};
 ghost use Rattle.forms.specs.GraphFaults.{firstFault};
 ghost use Rattle.forms.specs.AnswerForm.{marksOf};
-ghost use Rattle.certify.specs.Certify.{unmetVerdict, slacksVerdict, TableSized, CountsLow, ArcPassed, Counted, arcPlace, readPlace, vertexUnmet, arcUnmet, readUnmet, vertexSlackFault, arcSlackFault, MarksStand, NoneBelow, vertexPart, arcPart, sumFrom, Part, Sum};
+ghost use Rattle.certify.specs.Certify.{unmetVerdict, slacksVerdict, CountsLow, ArcPassed, Counted, arcPlace, readPlace, vertexUnmet, arcUnmet, readUnmet, vertexSlackFault, arcSlackFault, MarksStand, NoneBelow, vertexPart, arcPart, sumFrom, Part, Sum};
 
 // The first vertex whose demand is above the weights of the paths through it.
 fn vertices_unmet(s: &[u8], totals: &[usize; Graph::MAX_VERTICES]) -> Verdict

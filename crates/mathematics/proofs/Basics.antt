@@ -1,9 +1,12 @@
--- Laws of the tests and of `All`, which every other file cites: a test that holds taken apart, membership, All of a part, of a joined list, of a mapped one.
+-- Laws of the tests and of `All`, which every other file cites: a test that holds taken apart, membership, All of a part, of a joined list, of a mapped one, and place by place.
+use Prim.Native.Nat.{ℕ, zero, suc, _<_}
+use native.Mathlib.Omega.{arith}
 use mathlib.Core.Path.{_≡_, refl, sym, ap, subst}
 use mathlib.Core.List.{List, [], _∷_, _++_, map}
 use mathlib.Core.Bool.{Bool, true, false, _&&_, _||_}
 use mathlib.Core.Logic.{_⊎_, inl, inr}
 use lib.Dec.{T}
+use lib.ListN.{length, getD}
 use Rattle.mathematics.specs.Lists.{All}
 use Rattle.mathematics.specs.Range.{OneOf}
 
@@ -70,6 +73,17 @@ module _ {A : Type 0} where
   among-cases x [] ys m = inr m
   among-cases x (y ∷ xs) ys (inl e) = inl (inl e)
   among-cases x (y ∷ xs) ys (inr m) = elim (among-cases x xs ys m) [ inl h ↦ inl (inr h) | inr h ↦ inr h ]
+
+-- what holds at every place holds of all, and back
+module _ {A : Type 0} (P : A → Type 0) (d : A) where
+  pub all-at : (xs : List A) → ((k : ℕ) → k < length xs → P (getD xs k d)) → All P xs
+  all-at [] f = tt
+  all-at (x ∷ xs) f = (f 0 (omega arith), all-at xs (λ k l. f (suc k) (omega arith)))
+
+  pub at-all : (xs : List A) → All P xs → (k : ℕ) → k < length xs → P (getD xs k d)
+  at-all [] h k l = absurd (omega arith)
+  at-all (x ∷ xs) h zero l = h .0
+  at-all (x ∷ xs) h (suc k) l = at-all xs (h .1) k (omega arith)
 
 pub all-map : {A B : Type 0} (P : B → Type 0) (f : A → B) (xs : List A) → All (λ (x : A). P (f x)) xs → All P (map f xs)
 all-map P f [] h = tt

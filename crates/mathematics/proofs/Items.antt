@@ -1,7 +1,8 @@
 -- The items of a graph. Each vertex below n and each arc stands exactly once among the asks, so a sum over what a list passes through is a sum over
 -- the asks; and a list of vertices linked by arcs passes only through items of the graph. Totals and the bound rest on this.
-use Prim.Native.Nat.{ℕ, suc, _+_, _≤_, _<_}
+use Prim.Native.Nat.{ℕ, suc, _+_, _*_, _≤_, _<_}
 use native.Mathlib.Omega.{arith}
+use native.Mathlib.Nat.{mul-suc}
 use mathlib.Core.Path.{_≡_, refl, sym, ap, ap₂, subst, _∙_}
 use mathlib.Core.List.{List, [], _∷_, map}
 use mathlib.Core.Bool.{Bool, true, false, cond}
@@ -12,6 +13,7 @@ use Rattle.mathematics.specs.Price.{Prices, Ordered, times, sumBy}
 use Rattle.mathematics.specs.Lists.{All, Distinct}
 use Rattle.mathematics.specs.Graph.{Vertex, Arc, Graph, isPath, joins, hasArc, linked, Rises, WellFormed}
 use Rattle.mathematics.specs.Cover.{Item, vert, arc, sameItem, trail, oneIf, countOf, Ask, vertexAsks, arcAsk, asks, costOf}
+use Rattle.mathematics.specs.Bound.{readsThrough}
 use Rattle.mathematics.specs.Range.{OneOf}
 use Rattle.mathematics.proofs.Basics.{and-l, and-r, and-in, or-cases, test, is-true, is-false, all-among, all-append, all-map, all-from, all-weaken}
 use Rattle.mathematics.proofs.Reach.{linked-first, linked-rest, arc-joins, arc-rises, start-below, path-start, path-linked}
@@ -192,3 +194,25 @@ module _ (P : Prices) (L : Ordered P) (f : Item → P .El) where
       (sym (sum-add P L (hit P f j) (λ a. times P (countOf (a .item) js) (f (a .item))) (asks G)) ∙
       sum-equal P L _ _ (asks G)
       (all-from _ (asks G) (λ a m. sym (times-sum P L (oneIf (sameItem (a .item) j)) (countOf (a .item) js) (f (a .item))))))
+
+-- ---- how often lists pass an item at the most
+
+-- an item is among the items at most as often as there are items
+pub count-few : (i : Item) (js : List Item) → countOf i js ≤ length js
+count-few i [] = omega arith
+count-few i (j ∷ js) = omega (arith, count-few i js, one (sameItem i j))
+  where
+    one : (b : Bool) → oneIf b ≤ 1
+    one true = omega arith
+    one false = omega arith
+
+trail-few : (p : List ℕ) → length (trail p) ≤ 2 * length p
+trail-few [] = omega arith
+trail-few (v ∷ []) = omega arith
+trail-few (u ∷ v ∷ p) = omega (arith, trail-few (v ∷ p))
+
+-- a list passes an item at most twice for each of its vertices, so reads of up to k vertices pass it at most 2k times each
+pub reads-few : (k : ℕ) (i : Item) (rs : List (List ℕ)) → All (λ r. length r ≤ k) rs → readsThrough i rs ≤ 2 * k * length rs
+reads-few k i [] h = omega arith
+reads-few k i (r ∷ rs) h =
+    omega (arith, mul-suc (2 * k) (length rs), count-few i (trail r), trail-few r, h .0, reads-few k i rs (h .1))

@@ -3,7 +3,9 @@ use Prim.Native.Nat.{ℕ, _≤_, _<_}
 use native.Mathlib.Omega.{arith}
 use mathlib.Core.Path.{_≡_, refl, sym, ap, ap₂, subst, _∙_}
 use mathlib.Core.List.{List, [], _∷_, _++_, append-nil, append-assoc, head-eq-of-cons-eq, tail-eq-of-cons-eq}
+use mathlib.Core.Bool.{Bool, false, _&&_, _||_}
 use mathlib.Core.Logic.{_⊎_, inl, inr}
+use borrow.Author.Tests.{ne-eqb}
 use lib.Dec.{T, eqb, eqb→eq, eqb-refl}
 use lib.ListN.{length}
 use Rattle.mathematics.specs.Lists.{All, begins, holds, someHolds}
@@ -136,3 +138,9 @@ one-place v l r l′ r′ h e = go (levi l (v ∷ r) l′ (v ∷ r′) e)
     go (inr (m, f, g)) =
         let (a, b) = one-place-cut v l′ r′ l r m (subst Rising e h) f g in
         (sym a, sym b)
+
+-- a list whose first number is below all of b stands nowhere in b
+pub holds-above : (v : ℕ) (a b : List ℕ) → All (λ (w : ℕ). v < w) b → holds b (v ∷ a) ≡ false
+holds-above v a [] h = refl
+holds-above v a (y ∷ b) h =
+    ap₂ _||_ (ap (λ (t : Bool). t && begins a b) (ne-eqb v y (λ e. omega (arith, e, h .0)))) (holds-above v a b (h .1))

@@ -15,19 +15,20 @@ use Rattle.mathematics.specs.Range.{OneOf}
 use Rattle.mathematics.proofs.Basics.{all-append, all-left, all-right, all-weaken, all-among, among-map, or-cases, or-l, or-r}
 use Rattle.mathematics.proofs.Parts.{held-some}
 use Rattle.mathematics.proofs.Loads.{sumOver}
-use Rattle.mathematics.proofs.Links.{Link, reading, passes, opens, pathOf, reading-within, IsWhole}
+use Rattle.mathematics.proofs.Links.{Link, passes, opens, pathOf, reading-within, IsWhole}
 use Rattle.forms.specs.Bytes.{tabulate}
 use Rattle.forms.specs.GraphForm.{vertexCount}
 use Rattle.forms.specs.GraphOf.{graphOf}
 use Rattle.forms.specs.GraphReads.{Reads}
 use Rattle.forms.specs.AnswerFaults.{listBefore}
 use Rattle.forms.proofs.GraphFacts.{length-tabulate, graph-well-formed}
-use Rattle.network.specs.Network.{at, sumTo, share, leaving, entering}
-use Rattle.paths.specs.Slots.{preparedOf, plainSlots, allSlots, openingSlot, closingSlot, readingSlot, linkAt}
+use Rattle.network.specs.Network.{nth, sumTo, share, leaving, entering, mostEdges, mostMoved}
+use Rattle.paths.specs.Slots.{preparedOf, allSlots, openingSlot, closingSlot, readingSlot, linkAt}
 use Rattle.paths.specs.Peel.{collectedAt, collected, Ascend, PathTable, Inserted, fresh, added, GoesRound, worthTo, worthOf, Circles, NextLoaded, Winds, Peeled, loadedIn, opensAt, PeeledOne, Peeling}
-use Rattle.network.proofs.NetworkLaws.{same-or-not, below-or-not}
-use Rattle.paths.proofs.PeelLaws.{sum-same, sum-nothing, sum-part, share-here, share-there, only, taken-at, shares-nothing, shares-part}
-use Rattle.paths.proofs.PeelLawsLinks.{circles, whole, link-read}
+use Rattle.network.proofs.NetworkLaws.{same-or-not, below-or-not, sum-same, sum-none, sum-term, share-other}
+use Rattle.paths.proofs.PeelLaws.{share-here, only, taken-at, shares-nothing, shares-part}
+use Rattle.paths.proofs.SlotKinds.{at-reading}
+use Rattle.paths.proofs.PeelLawsLinks.{circles, whole}
 
 -- a weighted path more
 total-append : (i : Item) (a b : List Weighted) → total i (a ++ b) ≡ total i a + total i b
@@ -96,18 +97,18 @@ share-times : (u v k : ℕ) → share u v k ≡ k * share u v 1
 share-times u v k =
     ⊎-elim
     (λ q. subst (λ (x : ℕ). share u x k ≡ k * share u x 1) q (share-here u k ∙ sym (ap (λ (m : ℕ). k * m) (share-here u 1) ∙ mul-one k)))
-    (λ n. share-there u v k n ∙ sym (ap (λ (m : ℕ). k * m) (share-there u v 1 n) ∙ mul-zero k))
+    (λ n. share-other u v k n ∙ sym (ap (λ (m : ℕ). k * m) (share-other u v 1 n) ∙ mul-zero k))
     (same-or-not u v)
 
-shares-worth : (E : ℕ) (key load : List ℕ) (u : ℕ) → sumTo E (λ e. share u (at key e) (at load e)) ≡ worthTo E load (λ e. share u (at key e) 1)
-shares-worth E key load u = sum-same E _ _ (λ e b. share-times u (at key e) (at load e))
+shares-worth : (E : ℕ) (key load : List ℕ) (u : ℕ) → sumTo E (λ e. share u (nth key e) (nth load e)) ≡ worthTo E load (λ e. share u (nth key e) 1)
+shares-worth E key load u = sum-same E _ _ (λ e b. share-times u (nth key e) (nth load e))
 
 -- a walk from the root back to it enters each node as often as it leaves it
 winds-balance : (from to : List ℕ) (x u : ℕ) (ws : List ℕ) → Winds from to u ws →
-    sumOver (λ e. share x (at from e) 1) ws + share x 0 1 ≡ sumOver (λ e. share x (at to e) 1) ws + share x u 1
+    sumOver (λ e. share x (nth from e) 1) ws + share x 0 1 ≡ sumOver (λ e. share x (nth to e) 1) ws + share x u 1
 winds-balance from to x u [] w = absurd w
 winds-balance from to x u (e ∷ es) (f, inl (z, q)) = rw (q, f, z) (omega arith)
-winds-balance from to x u (e ∷ es) (f, inr (l, w)) = rw f (omega (arith, winds-balance from to x (at to e) es w))
+winds-balance from to x u (e ∷ es) (f, inr (l, w)) = rw f (omega (arith, winds-balance from to x (nth to e) es w))
 
 -- a sum that is nowhere more, and less at one place
 sum-less : (E : ℕ) (f g : ℕ → ℕ) (e : ℕ) → e < E → f e < g e → ((j : ℕ) → j < E → f j ≤ g j) → sumTo E f < sumTo E g
@@ -130,7 +131,7 @@ on-walk : (e : ℕ) (ws : List ℕ) → OneOf ws e ⊎ (sumOver (only e) ws ≡ 
 on-walk e [] = inr refl
 on-walk e (w ∷ ws) =
     ⊎-elim (λ q. inl (inl q))
-    (λ n. ⊎-elim (λ m. inl (inr m)) (λ z. inr (omega (arith, z, share-there e w 1 n))) (on-walk e ws)) (same-or-not e w)
+    (λ n. ⊎-elim (λ m. inl (inr m)) (λ z. inr (omega (arith, z, share-other e w 1 n))) (on-walk e ws)) (same-or-not e w)
 
 once-or-more : (e : ℕ) (ws : List ℕ) → OneOf ws e → 1 ≤ sumOver (only e) ws
 once-or-more e [] m = absurd m
@@ -154,30 +155,30 @@ module _ (s : List ℕ) (reads : Reads s) (from to first load : List ℕ) (W : L
   abbrev step : Weighted
   step = record { weight = one .amount; path = pathOf links }
 
-  lost : (e : ℕ) → e < allSlots s → at load e ≡ at after e + one .amount * sumOver (only e) (one .ws)
+  lost : (e : ℕ) → e < allSlots s → nth load e ≡ nth after e + one .amount * sumOver (only e) (one .ws)
   lost = taken-at (allSlots s) load (one .ws) (one .amount) after (one .taken)
 
-  is-whole : IsWhole (graphOf s) (λ v. 1 ≤ at first (openingSlot s v)) (λ v. 1 ≤ at first (closingSlot s v)) (graph-well-formed s reads .rises) links
+  is-whole : IsWhole (graphOf s) (λ v. 1 ≤ nth first (openingSlot s v)) (λ v. 1 ≤ nth first (closingSlot s v)) (graph-well-formed s reads .rises) links
   is-whole =
       whole s reads from to load first (peeling .goes) (peeling .below) (one .ws) (one .winds)
       (all-weaken _ _ (one .ws) (λ e h. (h .0, omega (arith, one .some))) (one .carries))
 
   -- a walk keeps the balance
   leaves-less : (key : List ℕ) (u : ℕ) →
-      sumTo (allSlots s) (λ e. share u (at key e) (at load e)) ≡
-      sumTo (allSlots s) (λ e. share u (at key e) (at after e)) + one .amount * sumOver (λ e. share u (at key e) 1) (one .ws)
+      sumTo (allSlots s) (λ e. share u (nth key e) (nth load e)) ≡
+      sumTo (allSlots s) (λ e. share u (nth key e) (nth after e)) + one .amount * sumOver (λ e. share u (nth key e) 1) (one .ws)
   leaves-less key u =
       omega (
         arith,
         shares-worth (allSlots s) key load u,
         shares-worth (allSlots s) key after u,
-        one .taken .worths (λ e. share u (at key e) 1),
+        one .taken .worths (λ e. share u (nth key e) 1),
       )
 
   still-balanced : (u : ℕ) → u < 2 * vertexCount s + 1 → leaving from after (allSlots s) u ≡ entering to after (allSlots s) u
   unfolding leaving entering
   still-balanced u b =
-      let same : sumOver (λ e. share u (at from e) 1) (one .ws) ≡ sumOver (λ e. share u (at to e) 1) (one .ws) =
+      let same : sumOver (λ e. share u (nth from e) 1) (one .ws) ≡ sumOver (λ e. share u (nth to e) 1) (one .ws) =
       omega (arith, winds-balance from to u 0 (one .ws) (one .winds)) in
       omega (arith, peeling .goes .balance u b, leaves-less from u, leaves-less to u, ap (λ (n : ℕ). one .amount * n) same)
 
@@ -205,27 +206,23 @@ module _ (s : List ℕ) (reads : Reads s) (from to first load : List ℕ) (W : L
   loaded-less =
       let (e, m, q) = one .empties in
       let c = all-among _ (one .ws) e (one .carries) m in
-      sum-less (allSlots s) (λ e. min 1 (at after e)) (λ e. min 1 (at load e)) e (c .0)
+      sum-less (allSlots s) (λ e. min 1 (nth after e)) (λ e. min 1 (nth load e)) e (c .0)
       (omega (arith, one .some, lost e (c .0), times-more (one .amount) (sumOver (only e) (one .ws)) (once-or-more e (one .ws) m)))
       (λ j b. omega (arith, lost j b))
 
   -- a read is still to be placed, or some path holds it
   still-held : (k : ℕ) → k < length (preparedOf s) →
-      (1 ≤ at after (readingSlot s k)) ⊎ T (someHolds (paths (collected rows lens weights r)) (getD (preparedOf s) k []))
+      (1 ≤ nth after (readingSlot s k)) ⊎ T (someHolds (paths (collected rows lens weights r)) (getD (preparedOf s) k []))
   still-held k b = ⊎-elim loaded (λ t. inr (inserted-held step W _ (getD (preparedOf s) k []) (one .kept .inserted) t)) (peeling .held k b)
     where
-      here : linkAt s (readingSlot s k) ≡ reading (getD (preparedOf s) k [])
-      here = let q : readingSlot s k - plainSlots s ≡ k = omega arith in
-          link-read s (readingSlot s k) (omega arith) ∙ ap (λ (n : ℕ). reading (getD (preparedOf s) n [])) q
-
-      loaded : 1 ≤ at load (readingSlot s k) →
-          (1 ≤ at after (readingSlot s k)) ⊎ T (someHolds (paths (collected rows lens weights r)) (getD (preparedOf s) k []))
+      loaded : 1 ≤ nth load (readingSlot s k) →
+          (1 ≤ nth after (readingSlot s k)) ⊎ T (someHolds (paths (collected rows lens weights r)) (getD (preparedOf s) k []))
       loaded l =
           ⊎-elim
           (λ m. inr
           (held-some (paths (collected rows lens weights r)) (getD (preparedOf s) k []) (pathOf links) (inserted-among step W _ (one .kept .inserted))
           (reading-within (getD (preparedOf s) k []) links
-          (subst (OneOf links) here (among-map (linkAt s) (readingSlot s k) (one .ws) m)))))
+          (subst (OneOf links) (at-reading s k) (among-map (linkAt s) (readingSlot s k) (one .ws) m)))))
           (λ z. inl (omega (arith, lost (readingSlot s k) (omega arith), ap (λ (n : ℕ). one .amount * n) z ∙ mul-zero (one .amount))))
           (on-walk (readingSlot s k) (one .ws))
 
@@ -247,30 +244,30 @@ module _ (s : List ℕ) (reads : Reads s) (from to first load : List ℕ) (W : L
       }
 
 -- Once the root sends nothing, no edge carries anything.
-module _ (N E : ℕ) (from to load : List ℕ) (C : Circles N E from to load) (root : (e : ℕ) → e < E → at from e ≡ 0 → at load e ≡ 0) where
-  none-into : (u : ℕ) → 1 ≤ u → ((e : ℕ) → e < E → at from e < u → at load e ≡ 0) → (j : ℕ) → j < E → at to j ≡ u → at load j ≡ 0
+module _ (N E : ℕ) (from to load : List ℕ) (C : Circles N E from to load) (root : (e : ℕ) → e < E → nth from e ≡ 0 → nth load e ≡ 0) where
+  none-into : (u : ℕ) → 1 ≤ u → ((e : ℕ) → e < E → nth from e < u → nth load e ≡ 0) → (j : ℕ) → j < E → nth to j ≡ u → nth load j ≡ 0
   none-into u p before j b t =
       ⊎-elim
       (λ l. ⊎-elim (λ h. absurd (omega arith)) (λ h. before j b (omega arith)) (C .rises j b l))
-      (λ z. omega arith) (below-or-not 0 (at load j))
+      (λ z. omega arith) (below-or-not 0 (nth load j))
 
-  none-out-of : (u : ℕ) → u < N → ((e : ℕ) → e < E → at from e < u → at load e ≡ 0) → (e : ℕ) → e < E → at from e ≡ u → at load e ≡ 0
+  none-out-of : (u : ℕ) → u < N → ((e : ℕ) → e < E → nth from e < u → nth load e ≡ 0) → (e : ℕ) → e < E → nth from e ≡ u → nth load e ≡ 0
   unfolding leaving entering
   none-out-of zero n before e b f = root e b f
   none-out-of (suc u) n before e b f =
       omega (arith, C .balance (suc u) n, shares-part E from load (suc u) e b f, shares-nothing E to load (suc u) (none-into (suc u) (omega arith) before))
 
-  none-below : (u : ℕ) → u ≤ N → (e : ℕ) → e < E → at from e < u → at load e ≡ 0
+  none-below : (u : ℕ) → u ≤ N → (e : ℕ) → e < E → nth from e < u → nth load e ≡ 0
   none-below zero n e b l = absurd (omega arith)
   none-below (suc u) n e b l =
       ⊎-elim (none-below u (omega arith) e b)
-      (λ h. none-out-of u n (none-below u (omega arith)) e b (omega arith)) (below-or-not (at from e) u)
+      (λ h. none-out-of u n (none-below u (omega arith)) e b (omega arith)) (below-or-not (nth from e) u)
 
-  none-left : (e : ℕ) → e < E → at load e ≡ 0
-  none-left e b = ⊎-elim (λ l. none-below N (omega arith) e b (C .from-node e b l)) (λ z. omega arith) (below-or-not 0 (at load e))
+  none-left : (e : ℕ) → e < E → nth load e ≡ 0
+  none-left e b = ⊎-elim (λ l. none-below N (omega arith) e b (C .from-node e b l)) (λ z. omega arith) (below-or-not 0 (nth load e))
 
   nothing-left : (g : ℕ → ℕ) → worthTo E load g ≡ 0
-  nothing-left g = sum-nothing E _ (λ e b. ap (λ (n : ℕ). n * g e) (none-left e b) ∙ zero-mul (g e))
+  nothing-left g = sum-none E _ (λ e b. ap (λ (n : ℕ). n * g e) (none-left e b) ∙ zero-mul (g e))
 
 -- paths that ascend row by row
 ascend-rows : (f : ℕ → Weighted) (n first : ℕ) → ((k : ℕ) → first ≤ k → k + 1 < first + n → T (listBefore (f k .path) (f (k + 1) .path))) → Ascend (tabulate f n first)
@@ -288,7 +285,7 @@ table-ascends rows lens weights count t = ascend-rows (collectedAt rows lens wei
 -- Once the root sends nothing, the collected paths carry all loads.
 pub peel-end : (s : List ℕ) → Reads s → (from to first load : List ℕ) (rows : List (List ℕ)) (lens weights : List ℕ) (count : ℕ) →
     PathTable rows lens weights count → Peeling s from to first load (collected rows lens weights count) count →
-    ((e : ℕ) → e < allSlots s → at from e ≡ 0 → at load e ≡ 0) → Peeled s first (collected rows lens weights count)
+    ((e : ℕ) → e < allSlots s → nth from e ≡ 0 → nth load e ≡ 0) → Peeled s first (collected rows lens weights count)
 unfolding collected
 peel-end s reads from to first load rows lens weights count table p root =
     let c = circles s reads from to load (p .goes) in
@@ -304,8 +301,8 @@ peel-end s reads from to first load rows lens weights count table p root =
     }
 
 -- nothing is taken off yet
-pub peel-start : (s : List ℕ) (from to load : List ℕ) (rows : List (List ℕ)) (lens weights : List ℕ) → length load ≡ 464 →
-    GoesRound s (2 * vertexCount s + 1) from to load → ((r : ℕ) → r < length (preparedOf s) → 1 ≤ at load (readingSlot s r)) →
+pub peel-start : (s : List ℕ) (from to load : List ℕ) (rows : List (List ℕ)) (lens weights : List ℕ) → length load ≡ mostEdges →
+    GoesRound s (2 * vertexCount s + 1) from to load → ((r : ℕ) → r < length (preparedOf s) → 1 ≤ nth load (readingSlot s r)) →
     Peeling s from to load load (collected rows lens weights 0) 0
 unfolding collected
 peel-start s from to load rows lens weights l g h =
@@ -324,18 +321,18 @@ peel-start s from to load rows lens weights l g h =
 
 -- one weight is no more than all
 weight-part : (rows : List (List ℕ)) (lens weights : List ℕ) (n first k : ℕ) → first ≤ k → k < first + n →
-    at weights k ≤ totalWeight (tabulate (collectedAt rows lens weights) n first)
+    nth weights k ≤ totalWeight (tabulate (collectedAt rows lens weights) n first)
 weight-part rows lens weights zero first k a b = absurd (omega arith)
 weight-part rows lens weights (suc n) first k a b =
     ⊎-elim (λ q. rw q (omega arith)) (λ m. omega (arith, weight-part rows lens weights n (suc first) k (omega arith) (omega arith))) (same-or-not k first)
 
 -- there is room for one path more, and for its weight
-pub step-room : (s from to first load : List ℕ) (rows : List (List ℕ)) (lens weights : List ℕ) (count e : ℕ) → allSlots s ≤ 464 →
-    worthOf s first (opensAt s) ≤ 320000016 → Peeling s from to first load (collected rows lens weights count) count → e < allSlots s → 1 ≤ at load e →
-    (count < 464) × ((k : ℕ) → k < count → at weights k + worthOf s load (opensAt s) ≤ 1000000000000)
+pub step-room : (s from to first load : List ℕ) (rows : List (List ℕ)) (lens weights : List ℕ) (count e : ℕ) → allSlots s ≤ mostEdges →
+    worthOf s first (opensAt s) ≤ mostMoved → Peeling s from to first load (collected rows lens weights count) count → e < allSlots s → 1 ≤ nth load e →
+    (count < mostEdges) × ((k : ℕ) → k < count → nth weights k + worthOf s load (opensAt s) ≤ mostMoved)
 unfolding collected
 step-room s from to first load rows lens weights count e small low p b l = (
-  omega (arith, p .few, sum-part (allSlots s) (λ j. min 1 (at load j)) e b),
+  omega (arith, p .few, sum-term (allSlots s) e (λ j. min 1 (nth load j)) b),
   λ k h. omega (arith, p .copies, weight-part rows lens weights count 0 k (omega arith) (omega arith)),
 )
 

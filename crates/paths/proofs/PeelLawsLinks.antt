@@ -1,4 +1,4 @@
--- The edges as links of the graph: which link an edge stands for, that a loaded edge is a link of the graph, that loads which go round make a bare
+-- The edges as links of the graph: that a loaded edge is a link of the graph, that loads which go round make a bare
 -- network that does, and that a walk from the root back to it is a path from a start to an end.
 use Prim.Native.Nat.{ℕ, _+_, _*_, _-_, _≤_, _<_}
 use native.Mathlib.Omega.{arith}
@@ -6,84 +6,29 @@ use mathlib.Core.Path.{_≡_, refl, sym, ap, subst, _∙_}
 use mathlib.Core.List.{List, [], _∷_, map}
 use mathlib.Core.Bool.{Bool, cond}
 use mathlib.Core.Logic.{_⊎_, inl, inr, ⊎-elim}
-use lib.Dec.{T, ltb, ltb→lt, lt→ltb}
+use lib.Dec.{T}
 use lib.ListN.{length, getD}
 use Rattle.mathematics.specs.Lists.{All}
 use Rattle.mathematics.specs.Graph.{isStart, isEnd, isPath, linked, Rises}
 use Rattle.mathematics.specs.Reach.{useful}
-use Rattle.mathematics.proofs.Basics.{is-true, is-false, and-l}
+use Rattle.mathematics.proofs.Basics.{is-true, and-l, at-all}
 use Rattle.mathematics.proofs.Reach.{linked-first, linked-rest, arc-rises, start-below, path-start, path-linked}
 use Rattle.mathematics.proofs.Prepared.{prepared-linked, prepared-fewer}
 use Rattle.mathematics.proofs.Links.{Link, opening, closing, inside, across, reading, inNode, linkFrom, linkTo, OfGraph, Used, Leads, IsWhole, whole-walk, link-rises}
-use Rattle.forms.specs.GraphForm.{vertexCount, arcCount, arcAt, arcTail, arcHead}
+use Rattle.forms.specs.GraphForm.{vertexCount}
 use Rattle.forms.specs.GraphOf.{graphOf}
 use Rattle.forms.specs.GraphReads.{Reads}
 use Rattle.forms.proofs.ArcNumbers.{arc-there}
 use Rattle.forms.proofs.GraphFacts.{graph-well-formed, graph-within}
 use Rattle.forms.proofs.GraphRange.{vertices-length}
-use Rattle.reads.proofs.TableLaws.{at-all}
-use Rattle.network.specs.Network.{at}
+use Rattle.network.specs.Network.{nth, mostEdges}
 use Rattle.paths.specs.Slots.{preparedOf, plainSlots, allSlots, openingSlot, closingSlot, readingSlot, linkAt, inUse, edgeFrom, edgeTo}
 use Rattle.paths.specs.Peel.{GoesRound, Circles, Winds}
-use Rattle.network.proofs.NetworkLaws.{below-or-not}
-
-pick-first : {A : Type 0} (a b : ℕ) (x y : A) → a < b → cond (ltb a b) x y ≡ x
-pick-first a b x y h = ap (λ (t : Bool). cond t x y) (is-true (ltb a b) (lt→ltb a b h))
-
-pick-second : {A : Type 0} (a b : ℕ) (x y : A) → b ≤ a → cond (ltb a b) x y ≡ y
-pick-second a b x y h = ap (λ (t : Bool). cond t x y) (is-false (ltb a b) (λ t. let l = ltb→lt a b t in omega arith))
-
--- which link an edge stands for
-pub data Stands (s : List ℕ) (e : ℕ) : Type 0 where
-  vertex : e < vertexCount s → linkAt s e ≡ inside e → Stands s e
-  join : (a : ℕ) → a < arcCount s → vertexCount s ≤ e → e < plainSlots s → linkAt s e ≡ across (arcTail s (arcAt s a)) (arcHead s (arcAt s a)) → Stands s e
-  start : (v : ℕ) → e ≡ openingSlot s v → vertexCount s ≤ e → e < plainSlots s → linkAt s e ≡ opening v → Stands s e
-  stop : (v : ℕ) → e ≡ closingSlot s v → vertexCount s ≤ e → e < plainSlots s → linkAt s e ≡ closing v → Stands s e
-  read : (r : ℕ) → e ≡ readingSlot s r → linkAt s e ≡ reading (getD (preparedOf s) r []) → Stands s e
-
-pub link-read : (s : List ℕ) (e : ℕ) → plainSlots s ≤ e → linkAt s e ≡ reading (getD (preparedOf s) (e - plainSlots s) [])
-unfolding linkAt
-link-read s e h =
-    pick-second e (vertexCount s) _ _ (omega arith) ∙
-    (pick-second e (vertexCount s + arcCount s) _ _ (omega arith) ∙
-    (pick-second e (2 * vertexCount s + arcCount s) _ _ (omega arith) ∙ pick-second e (plainSlots s) _ _ h))
-
-link-stop : (s : List ℕ) (e : ℕ) → 2 * vertexCount s + arcCount s ≤ e → e < plainSlots s → linkAt s e ≡ closing (e - (2 * vertexCount s + arcCount s))
-unfolding linkAt
-link-stop s e h l =
-    pick-second e (vertexCount s) _ _ (omega arith) ∙
-    (pick-second e (vertexCount s + arcCount s) _ _ (omega arith) ∙
-    (pick-second e (2 * vertexCount s + arcCount s) _ _ (omega arith) ∙ pick-first e (plainSlots s) _ _ l))
-
-link-start : (s : List ℕ) (e : ℕ) → vertexCount s + arcCount s ≤ e → e < 2 * vertexCount s + arcCount s →
-    linkAt s e ≡ opening (2 * vertexCount s + arcCount s - (e + 1))
-unfolding linkAt
-link-start s e h l =
-    pick-second e (vertexCount s) _ _ (omega arith) ∙
-    (pick-second e (vertexCount s + arcCount s) _ _ (omega arith) ∙ pick-first e (2 * vertexCount s + arcCount s) _ _ l)
-
-link-join : (s : List ℕ) (e : ℕ) → vertexCount s ≤ e → e < vertexCount s + arcCount s →
-    linkAt s e ≡
-    across (arcTail s (arcAt s (vertexCount s + arcCount s - (e + 1)))) (arcHead s (arcAt s (vertexCount s + arcCount s - (e + 1))))
-unfolding linkAt
-link-join s e h l = pick-second e (vertexCount s) _ _ (omega arith) ∙ pick-first e (vertexCount s + arcCount s) _ _ l
-
-link-vertex : (s : List ℕ) (e : ℕ) → e < vertexCount s → linkAt s e ≡ inside e
-unfolding linkAt
-link-vertex s e h = pick-first e (vertexCount s) _ _ h
-
-pub stands : (s : List ℕ) (e : ℕ) → Stands s e
-stands s e =
-    ⊎-elim (λ h. vertex h (link-vertex s e h))
-    (λ h. ⊎-elim (λ k. join (vertexCount s + arcCount s - (e + 1)) (omega arith) h (omega arith) (link-join s e h k))
-    (λ k. ⊎-elim (λ l. start (2 * vertexCount s + arcCount s - (e + 1)) (omega arith) h (omega arith) (link-start s e k l))
-    (λ l. ⊎-elim (λ m. stop (e - (2 * vertexCount s + arcCount s)) (omega arith) h m (link-stop s e l m))
-    (λ m. read (e - plainSlots s) (omega arith) (link-read s e m))
-    (below-or-not e (plainSlots s))) (below-or-not e (2 * vertexCount s + arcCount s))) (below-or-not e (vertexCount s + arcCount s)))
-    (below-or-not e (vertexCount s))
+use Rattle.reads.specs.ReadTable.{rowLength}
+use Rattle.paths.proofs.SlotKinds.{SlotKind, is-inside, is-across, is-opening, is-closing, any-slot}
 
 -- the numbers of edges and nodes are small
-pub slots-few : (s : List ℕ) → Reads s → allSlots s ≤ 464
+pub slots-few : (s : List ℕ) → Reads s → allSlots s ≤ mostEdges
 slots-few s r =
     omega (arith, r .arcs .header .few-vertices, r .arcs .header .few-arcs, prepared-fewer (graphOf s .reads), graph-within s r .few-reads)
 
@@ -101,14 +46,18 @@ module _ (s : List ℕ) (reads : Reads s) where
   -- a link in use is one of the graph's
   of-graph : (e : ℕ) → e < allSlots s → T (inUse s (linkAt s e)) → OfGraph (graphOf s) (linkAt s e)
   unfolding inUse
-  of-graph e b t = go (stands s e)
+  of-graph e b t = go (any-slot s e)
     where
-      go : Stands s e → OfGraph (graphOf s) (linkAt s e)
-      go (vertex h i) = rw i (omega (arith, vertices-length s))
-      go (join a h _ _ i) = rw i (arc-there s a h)
-      go (start v _ _ _ i) = rw i (and-l (isStart (graphOf s) v) (useful (graphOf s) v) (subst (λ (l : Link). T (inUse s l)) i t))
-      go (stop v _ _ _ i) = rw i (and-l (isEnd (graphOf s) v) (useful (graphOf s) v) (subst (λ (l : Link). T (inUse s l)) i t))
-      go (read r q i) =
+      kind : SlotKind s e → OfGraph (graphOf s) (linkAt s e)
+      kind (is-inside v h _ i) = rw i (omega (arith, vertices-length s))
+      kind (is-across a h _ i) = rw i (arc-there s a h)
+      kind (is-opening v _ _ i) = rw i (and-l (isStart (graphOf s) v) (useful (graphOf s) v) (subst (λ (l : Link). T (inUse s l)) i t))
+      kind (is-closing v _ _ i) = rw i (and-l (isEnd (graphOf s) v) (useful (graphOf s) v) (subst (λ (l : Link). T (inUse s l)) i t))
+
+      go : ((e < plainSlots s) × SlotKind s e) ⊎ ((r : ℕ) × (e ≡ readingSlot s r) × (linkAt s e ≡ reading (getD (preparedOf s) r []))) →
+          OfGraph (graphOf s) (linkAt s e)
+      go (inl (_, k)) = kind k
+      go (inr (r, q, i)) =
           rw i
           (let h = at-all (λ (r : List ℕ). (2 ≤ length r) × T (linked (graphOf s .arcs) r)) [] (preparedOf s) (prepared-linked (graphOf s) (graph-well-formed s reads)) r (omega arith) in
           read-of-graph (getD (preparedOf s) r []) (h .0) (h .1))
@@ -133,12 +82,12 @@ module _ (s : List ℕ) (reads : Reads s) where
   ways (reading (v ∷ r)) t =
       let h = link-rises (graphOf s) (λ v. Unit {0}) (λ v. Unit {0}) rises (reading (v ∷ r)) t in inr (omega arith, omega arith, refl)
 
-  module _ (N : ℕ) (from to load : List ℕ) (goes : GoesRound s N from to load) (e : ℕ) (b : e < allSlots s) (l : 1 ≤ at load e) where
-    edge-from : at from e ≡ linkFrom (linkAt s e)
+  module _ (N : ℕ) (from to load : List ℕ) (goes : GoesRound s N from to load) (e : ℕ) (b : e < allSlots s) (l : 1 ≤ nth load e) where
+    edge-from : nth from e ≡ linkFrom (linkAt s e)
     unfolding edgeFrom
     edge-from = goes .from-right e b ∙ ap (λ (t : Bool). cond t (linkFrom (linkAt s e)) 0) (is-true (inUse s (linkAt s e)) (goes .in-use e b l))
 
-    edge-to : at to e ≡ linkTo 0 (linkAt s e)
+    edge-to : nth to e ≡ linkTo 0 (linkAt s e)
     unfolding edgeTo
     edge-to = goes .to-right e b ∙ ap (λ (t : Bool). cond t (linkTo 0 (linkAt s e)) 0) (is-true (inUse s (linkAt s e)) (goes .in-use e b l))
 
@@ -161,24 +110,23 @@ module _ (s : List ℕ) (reads : Reads s) where
 
   -- what is known of the first and the last vertex of a walk: their opening and closing carried something at first
   abbrev pub OpensAt : List ℕ → ℕ → Type 0
-  OpensAt load₀ v = 1 ≤ at load₀ (openingSlot s v)
+  OpensAt load₀ v = 1 ≤ nth load₀ (openingSlot s v)
 
   abbrev pub ClosesAt : List ℕ → ℕ → Type 0
-  ClosesAt load₀ v = 1 ≤ at load₀ (closingSlot s v)
+  ClosesAt load₀ v = 1 ≤ nth load₀ (closingSlot s v)
 
-  used-link : (load₀ : List ℕ) (e : ℕ) → 1 ≤ at load₀ e → Used (OpensAt load₀) (ClosesAt load₀) (linkAt s e)
-  used-link load₀ e l = go (stands s e)
+  used-link : (load₀ : List ℕ) (e : ℕ) → 1 ≤ nth load₀ e → Used (OpensAt load₀) (ClosesAt load₀) (linkAt s e)
+  used-link load₀ e l = ⊎-elim (λ k. kind (k .1)) (λ r. rw (r .2) tt) (any-slot s e)
     where
-      go : Stands s e → Used (OpensAt load₀) (ClosesAt load₀) (linkAt s e)
-      go (vertex h i) = rw i tt
-      go (join a h _ _ i) = rw i tt
-      go (start v q _ _ i) = rw i (subst (λ (k : ℕ). 1 ≤ at load₀ k) q l)
-      go (stop v q _ _ i) = rw i (subst (λ (k : ℕ). 1 ≤ at load₀ k) q l)
-      go (read r q i) = rw i tt
+      kind : SlotKind s e → Used (OpensAt load₀) (ClosesAt load₀) (linkAt s e)
+      kind (is-inside v _ _ i) = rw i tt
+      kind (is-across a _ _ i) = rw i tt
+      kind (is-opening v _ q i) = rw i (subst (λ (k : ℕ). 1 ≤ nth load₀ k) q l)
+      kind (is-closing v _ q i) = rw i (subst (λ (k : ℕ). 1 ≤ nth load₀ k) q l)
 
   module _ (from to load load₀ : List ℕ) (goes : GoesRound s (2 * vertexCount s + 1) from to load)
-      (below : (e : ℕ) → e < allSlots s → at load e ≤ at load₀ e) where
-    leads : (u : ℕ) (ws : List ℕ) → Winds from to u ws → All (λ e. (e < allSlots s) × (1 ≤ at load e)) ws →
+      (below : (e : ℕ) → e < allSlots s → nth load e ≤ nth load₀ e) where
+    leads : (u : ℕ) (ws : List ℕ) → Winds from to u ws → All (λ e. (e < allSlots s) × (1 ≤ nth load e)) ws →
         Leads (graphOf s) (OpensAt load₀) (ClosesAt load₀) u (map (linkAt s) ws)
     unfolding Ways
     leads u [] w h = absurd w
@@ -192,11 +140,11 @@ module _ (s : List ℕ) (reads : Reads s) where
       (of-graph e b (goes .in-use e b l), used-link load₀ e (omega (arith, below e b))),
       subst (λ (x : ℕ). Leads (graphOf s) (OpensAt load₀) (ClosesAt load₀) x (map (linkAt s) es))
           (edge-to _ from to load goes e b l ∙ ⊎-elim (λ k. absurd (omega (arith, edge-to _ from to load goes e b l))) (λ k. sym (k .2)) (edge-ways _ from to load goes e b l))
-          (leads (at to e) es w h),
+          (leads (nth to e) es w h),
     )
 
     -- a walk from the root back to it is a path from a start to an end
-    pub whole : (ws : List ℕ) → Winds from to 0 ws → All (λ e. (e < allSlots s) × (1 ≤ at load e)) ws →
+    pub whole : (ws : List ℕ) → Winds from to 0 ws → All (λ e. (e < allSlots s) × (1 ≤ nth load e)) ws →
         IsWhole (graphOf s) (OpensAt load₀) (ClosesAt load₀) rises (map (linkAt s) ws)
     whole ws w h = whole-walk (graphOf s) (OpensAt load₀) (ClosesAt load₀) rises (map (linkAt s) ws) (leads 0 ws w h)
 
@@ -207,7 +155,7 @@ module _ (s : List ℕ) (reads : Reads s) where
       let h = arc-rises (length (graphOf s .vertices)) (graphOf s .arcs) v w rises (linked-first (graphOf s .arcs) v w p l) in
       omega (arith, linked-short w p (h .1) (linked-rest (graphOf s .arcs) v w p l))
 
-  pub path-short : (p : List ℕ) → T (isPath (graphOf s) p) → length p ≤ 64
+  pub path-short : (p : List ℕ) → T (isPath (graphOf s) p) → length p ≤ rowLength
   path-short [] t = absurd t
   path-short (v ∷ p) t =
       omega (

@@ -12,15 +12,16 @@ use Rattle.mathematics.proofs.Links.{opens, pathOf, IsWhole}
 use Rattle.forms.specs.GraphForm.{vertexCount}
 use Rattle.forms.specs.GraphOf.{graphOf}
 use Rattle.forms.proofs.GraphFacts.{graph-well-formed}
-use Rattle.network.specs.Network.{at}
+use Rattle.network.specs.Network.{nth, mostNodes, mostEdges}
 use Rattle.paths.specs.Slots.{allSlots, openingSlot, closingSlot, linkAt}
 use Rattle.paths.specs.Peel.{Collected, GoesRound, worthOf, Circles, Walked, TakenOff, Ready, opensAt, PeeledOne}
+use Rattle.reads.specs.ReadTable.{rowLength}
 use Rattle.paths.proofs.PeelLawsLinks.{circles, whole, path-short, slots-few}
 use Rattle.paths.proofs.PeelLawsAll.{sum-map}
 
 module _ (s : List ℕ) (vertices plain edges : ℕ) (from to head next load : List ℕ) (rows : List (List ℕ)) (lens : List ℕ)
     (ready : Ready s vertices plain edges from head next rows lens) where
-  pub ready-sizes : (2 * vertices + 1 ≤ 129) × (edges ≤ 464)
+  pub ready-sizes : (2 * vertices + 1 ≤ mostNodes) × (edges ≤ mostEdges)
   ready-sizes = (omega (arith, ready .held .few-vertices), omega (arith, ready .edges-right, slots-few s (ready .reads)))
 
   module _ (goes : GoesRound s (2 * vertexCount s + 1) from to load) where
@@ -30,19 +31,19 @@ module _ (s : List ℕ) (vertices plain edges : ℕ) (from to head next load : L
         (circles s (ready .reads) from to load goes)
 
     module _ (way : List ℕ) (len amount : ℕ) (walked : Walked edges from to load way len amount) where
-      carries : All (λ e. (e < allSlots s) × (amount ≤ at load e)) (take len way)
-      carries = subst (λ (n : ℕ). All (λ e. (e < n) × (amount ≤ at load e)) (take len way)) (ready .edges-right) (walked .carries)
+      carries : All (λ e. (e < allSlots s) × (amount ≤ nth load e)) (take len way)
+      carries = subst (λ (n : ℕ). All (λ e. (e < n) × (amount ≤ nth load e)) (take len way)) (ready .edges-right) (walked .carries)
 
       pub walk-edges : All (λ e. e < allSlots s) (take len way)
       walk-edges = all-weaken _ _ (take len way) (λ e h. h .0) carries
 
-      is-whole : IsWhole (graphOf s) (λ v. 1 ≤ at load (openingSlot s v)) (λ v. 1 ≤ at load (closingSlot s v)) (graph-well-formed s (ready .reads) .rises)
+      is-whole : IsWhole (graphOf s) (λ v. 1 ≤ nth load (openingSlot s v)) (λ v. 1 ≤ nth load (closingSlot s v)) (graph-well-formed s (ready .reads) .rises)
           (map (linkAt s) (take len way))
       is-whole =
           whole s (ready .reads) from to load load goes (λ e b. omega arith) (take len way) (walked .winds)
           (all-weaken _ _ (take len way) (λ e h. (h .0, omega (arith, walked .some))) carries)
 
-      pub walk-short : length (pathOf (map (linkAt s) (take len way))) ≤ 64
+      pub walk-short : length (pathOf (map (linkAt s) (take len way))) ≤ rowLength
       walk-short = path-short s (ready .reads) (pathOf (map (linkAt s) (take len way))) (is-whole .is-path)
 
       module _ (after : List ℕ) (off : TakenOff edges load (take len way) amount after) where

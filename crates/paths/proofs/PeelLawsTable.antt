@@ -11,10 +11,11 @@ use lib.ListN.{length, getD, set, take, drop, length-set, drop-of-length-le}
 use lib.Seq.{getD-set-same, getD-set-other, getD-take, drop-cons, length-take-le}
 use Rattle.mathematics.proofs.Basics.{is-true, is-false, or-l, or-r, and-in}
 use Rattle.forms.specs.AnswerFaults.{listBefore}
-use Rattle.network.specs.Network.{at}
+use Rattle.network.specs.Network.{nth}
 use Rattle.mathematics.specs.Cover.{Weighted}
 use Rattle.forms.specs.Bytes.{tabulate}
-use Rattle.paths.specs.Peel.{pathAt, collectedAt, collected, orderOf, RowFits, PathTable, Spotted, Shifted, Belongs, Inserted, fresh, added, Collected}
+use Rattle.paths.specs.Peel.{pathInRow, collectedAt, collected, orderOf, RowFits, PathTable, Spotted, Shifted, Belongs, Inserted, fresh, added, Collected}
+use Rattle.reads.specs.ReadTable.{rowLength}
 use Rattle.network.proofs.NetworkLaws.{same-or-not, below-or-not}
 
 -- one number decides, or the rest
@@ -84,7 +85,7 @@ order-low (x ∷ p) (y ∷ q) =
 -- comparing number by number: the first k are the same
 module _ (row : List ℕ) (len : ℕ) (other : List ℕ) (size : ℕ) (fits : RowFits row len) (fits′ : RowFits other size) (k : ℕ)
     (same : orderOf (take len row) (take size other) ≡ orderOf (drop k (take len row)) (drop k (take size other))) where
-  tail : (xs : List ℕ) (n : ℕ) → RowFits xs n → k < n → drop k (take n xs) ≡ at xs k ∷ drop (suc k) (take n xs)
+  tail : (xs : List ℕ) (n : ℕ) → RowFits xs n → k < n → drop k (take n xs) ≡ nth xs k ∷ drop (suc k) (take n xs)
   tail xs n f b =
       drop-cons (take n xs) k 0 (omega (arith, length-take-le n xs (omega (arith, f .wide, f .fit)))) ∙
       ap (λ (x : ℕ). x ∷ drop (suc k) (take n xs)) (getD-take n xs k 0 b)
@@ -96,13 +97,13 @@ module _ (row : List ℕ) (len : ℕ) (other : List ℕ) (size : ℕ) (fits : Ro
   unfolding orderOf
   order-short b s = sym (same ∙ ap₂ orderOf (tail row len fits b) (ended other size fits′ s))
 
-  pub order-before : k < len → k < size → at row k < at other k → 0 ≡ orderOf (take len row) (take size other)
+  pub order-before : k < len → k < size → nth row k < nth other k → 0 ≡ orderOf (take len row) (take size other)
   order-before b s h = sym (same ∙ (ap₂ orderOf (tail row len fits b) (tail other size fits′ s) ∙ order-less _ _ _ _ h))
 
-  pub order-after : k < len → k < size → at other k < at row k → 2 ≡ orderOf (take len row) (take size other)
+  pub order-after : k < len → k < size → nth other k < nth row k → 2 ≡ orderOf (take len row) (take size other)
   order-after b s h = sym (same ∙ (ap₂ orderOf (tail row len fits b) (tail other size fits′ s) ∙ order-more _ _ _ _ h))
 
-  pub order-turn : k < len → k < size → at other k ≤ at row k → at row k ≤ at other k →
+  pub order-turn : k < len → k < size → nth other k ≤ nth row k → nth row k ≤ nth other k →
       orderOf (take len row) (take size other) ≡ orderOf (drop (k + 1) (take len row)) (drop (k + 1) (take size other))
   order-turn b s g h =
       same ∙
@@ -120,32 +121,32 @@ module _ (row : List ℕ) (len : ℕ) (other : List ℕ) (size : ℕ) (fits : Ro
 -- looking for the path p from the last row down
 pub record Seeking (rows : List (List ℕ)) (lens : List ℕ) (count : ℕ) (p : List ℕ) (i : ℕ) : Type 0 where
   pub within : i ≤ count
-  pub after : i < count → T (listBefore p (pathAt rows lens i))
+  pub after : i < count → T (listBefore p (pathInRow rows lens i))
 
 module _ (rows : List (List ℕ)) (lens : List ℕ) (count : ℕ) (p : List ℕ) (i : ℕ) (seeking : Seeking rows lens count p i) where
-  pub seek-same : (o : ℕ) → 1 ≤ i → o ≡ orderOf p (pathAt rows lens (i - 1)) → o ≡ 1 → Spotted rows lens count p (record { at = i - 1; same = true })
+  pub seek-same : (o : ℕ) → 1 ≤ i → o ≡ orderOf p (pathInRow rows lens (i - 1)) → o ≡ 1 → Spotted rows lens count p (record { at = i - 1; same = true })
   seek-same o b e h =
       record {
-        same = λ t. (omega (arith, seeking .within), order-one p (pathAt rows lens (i - 1)) (sym e ∙ h));
+        same = λ t. (omega (arith, seeking .within), order-one p (pathInRow rows lens (i - 1)) (sym e ∙ h));
         within = λ t. let z : _≡_ {A = ℕ} 0 1 = cc in absurd (omega arith);
         before = λ t. let z : _≡_ {A = ℕ} 0 1 = cc in absurd (omega arith);
         after = λ t. let z : _≡_ {A = ℕ} 0 1 = cc in absurd (omega arith);
       }
 
-  pub seek-after : (o : ℕ) → 1 ≤ i → o ≡ orderOf p (pathAt rows lens (i - 1)) → o ≡ 2 → Spotted rows lens count p (record { at = i; same = false })
+  pub seek-after : (o : ℕ) → 1 ≤ i → o ≡ orderOf p (pathInRow rows lens (i - 1)) → o ≡ 2 → Spotted rows lens count p (record { at = i; same = false })
   seek-after o b e h =
       record {
         same = λ t. let z : _≡_ {A = ℕ} 0 1 = cc in absurd (omega arith);
         within = λ t. seeking .within;
-        before = λ t l. order-two p (pathAt rows lens (i - 1)) (sym e ∙ h);
+        before = λ t l. order-two p (pathInRow rows lens (i - 1)) (sym e ∙ h);
         after = λ t. seeking .after;
       }
 
-  pub seek-turn : (o : ℕ) → 1 ≤ i → o ≡ orderOf p (pathAt rows lens (i - 1)) → o ≢ 1 → o ≢ 2 → Seeking rows lens count p (i - 1)
+  pub seek-turn : (o : ℕ) → 1 ≤ i → o ≡ orderOf p (pathInRow rows lens (i - 1)) → o ≢ 1 → o ≢ 2 → Seeking rows lens count p (i - 1)
   seek-turn o b e n m =
       record {
         within = omega (arith, seeking .within);
-        after = λ h. order-zero p (pathAt rows lens (i - 1)) (omega (arith, order-low p (pathAt rows lens (i - 1))));
+        after = λ h. order-zero p (pathInRow rows lens (i - 1)) (omega (arith, order-low p (pathInRow rows lens (i - 1))));
       }
 
   pub seek-end : i ≤ 0 → Spotted rows lens count p (record { at = i; same = false })
@@ -218,27 +219,27 @@ module _ (rows : List (List ℕ)) (lens weights : List ℕ) (count : ℕ) (table
   w : Put 0 weights (set weights₁ i weight) i count weight
   w = put-in 0 weights weights₁ i count weight (omega (arith, table .weighed, belongs .room, belongs .within)) u
 
-  path-before : (k : ℕ) → k < i → pathAt (set rows₁ i row) (set lens₁ i len) k ≡ pathAt rows lens k
+  path-before : (k : ℕ) → k < i → pathInRow (set rows₁ i row) (set lens₁ i len) k ≡ pathInRow rows lens k
   path-before k h = ap₂ take (b .before k h) (a .before k h)
 
-  path-here : pathAt (set rows₁ i row) (set lens₁ i len) i ≡ take len row
+  path-here : pathInRow (set rows₁ i row) (set lens₁ i len) i ≡ take len row
   path-here = ap₂ take (b .here) (a .here)
 
-  path-after : (k : ℕ) → i < k → k ≤ count → pathAt (set rows₁ i row) (set lens₁ i len) k ≡ pathAt rows lens (k - 1)
+  path-after : (k : ℕ) → i < k → k ≤ count → pathInRow (set rows₁ i row) (set lens₁ i len) k ≡ pathInRow rows lens (k - 1)
   path-after k h l = ap₂ take (b .after k h l) (a .after k h l)
 
   -- of each row of the new table
-  each : (P : List ℕ → ℕ → Type 0) → P row len → ((k : ℕ) → k < count → P (getD rows k []) (at lens k)) → (k : ℕ) → k < count + 1 →
-      P (getD (set rows₁ i row) k []) (at (set lens₁ i len) k)
+  each : (P : List ℕ → ℕ → Type 0) → P row len → ((k : ℕ) → k < count → P (getD rows k []) (nth lens k)) → (k : ℕ) → k < count + 1 →
+      P (getD (set rows₁ i row) k []) (nth (set lens₁ i len) k)
   each P p h k l =
       ⊎-elim (λ q. subst₂ P (sym (a .before k q)) (sym (b .before k q)) (h k (omega (arith, belongs .within))))
       (λ q.
-      ⊎-elim (λ e. subst (λ (j : ℕ). P (getD (set rows₁ i row) j []) (at (set lens₁ i len) j)) (sym e) (subst₂ P (sym (a .here)) (sym (b .here)) p))
+      ⊎-elim (λ e. subst (λ (j : ℕ). P (getD (set rows₁ i row) j []) (nth (set lens₁ i len) j)) (sym e) (subst₂ P (sym (a .here)) (sym (b .here)) p))
       (λ n. let m : i < k = omega arith in let o : k ≤ count = omega arith in
       subst₂ P (sym (a .after k m o)) (sym (b .after k m o)) (h (k - 1) (omega arith))) (same-or-not k i)) (below-or-not k i)
 
   Before : ℕ → Type 0
-  Before k = T (listBefore (pathAt (set rows₁ i row) (set lens₁ i len) k) (pathAt (set rows₁ i row) (set lens₁ i len) (k + 1)))
+  Before k = T (listBefore (pathInRow (set rows₁ i row) (set lens₁ i len) k) (pathInRow (set rows₁ i row) (set lens₁ i len) (k + 1)))
 
   put-ascends : (k : ℕ) → k + 1 < count + 1 → Before k
   unfolding Before
@@ -247,14 +248,14 @@ module _ (rows : List (List ℕ)) (lens weights : List ℕ) (count : ℕ) (table
       (λ q. subst₂ (λ x y. T (listBefore x y)) (sym (path-before k (omega arith))) (sym (path-before (k + 1) q)) (table .ascends k (omega (arith, belongs .within))))
       (λ q.
       ⊎-elim
-      (λ e. subst₂ (λ x y. T (listBefore x y)) (sym (path-before k (omega arith) ∙ ap (pathAt rows lens) (omega arith)))
-      (sym (ap (pathAt (set rows₁ i row) (set lens₁ i len)) e ∙ path-here)) (belongs .before (omega arith)))
+      (λ e. subst₂ (λ x y. T (listBefore x y)) (sym (path-before k (omega arith) ∙ ap (pathInRow rows lens) (omega arith)))
+      (sym (ap (pathInRow (set rows₁ i row) (set lens₁ i len)) e ∙ path-here)) (belongs .before (omega arith)))
       (λ n.
       ⊎-elim
-      (λ e. subst₂ (λ x y. T (listBefore x y)) (sym (ap (pathAt (set rows₁ i row) (set lens₁ i len)) e ∙ path-here))
-      (sym (path-after (k + 1) (omega arith) (omega arith) ∙ ap (pathAt rows lens) (omega arith))) (belongs .after (omega arith)))
+      (λ e. subst₂ (λ x y. T (listBefore x y)) (sym (ap (pathInRow (set rows₁ i row) (set lens₁ i len)) e ∙ path-here))
+      (sym (path-after (k + 1) (omega arith) (omega arith) ∙ ap (pathInRow rows lens) (omega arith))) (belongs .after (omega arith)))
       (λ m. subst₂ (λ x y. T (listBefore x y)) (sym (path-after k (omega arith) (omega arith)))
-      (sym (path-after (k + 1) (omega arith) (omega arith) ∙ ap (pathAt rows lens) (omega arith))) (table .ascends (k - 1) (omega arith)))
+      (sym (path-after (k + 1) (omega arith) (omega arith) ∙ ap (pathInRow rows lens) (omega arith))) (table .ascends (k - 1) (omega arith)))
       (same-or-not k i))
       (same-or-not (k + 1) i))
       (below-or-not (k + 1) i)
@@ -267,8 +268,8 @@ module _ (rows : List (List ℕ)) (lens weights : List ℕ) (count : ℕ) (table
         tall = a .long ∙ table .tall;
         sized = b .long ∙ table .sized;
         weighed = w .long ∙ table .weighed;
-        wide = each (λ r n. length r ≡ 64) (fits .wide) (table .wide);
-        fit = each (λ r n. n ≤ 64) (fits .fit) (table .fit);
+        wide = each (λ r n. length r ≡ rowLength) (fits .wide) (table .wide);
+        fit = each (λ r n. n ≤ rowLength) (fits .fit) (table .fit);
         ascends = put-ascends;
       }
 
@@ -291,8 +292,8 @@ module _ (rows : List (List ℕ)) (lens weights : List ℕ) (count : ℕ) (table
       ap₂ _++_ (tab-same g f i 0 (λ k x y. weighted (w .before k (omega arith)) (path-before k (omega arith))))
       (ap₂ _∷_ (weighted (w .here) path-here)
       (tab-next g f (count - i) i
-      (λ k x y. weighted (w .after (suc k) (omega arith) (omega (arith, belongs .within)) ∙ ap (at weights) (omega arith))
-      (path-after (suc k) (omega arith) (omega (arith, belongs .within)) ∙ ap (pathAt rows lens) (omega arith))))))
+      (λ k x y. weighted (w .after (suc k) (omega arith) (omega (arith, belongs .within)) ∙ ap (nth weights) (omega arith))
+      (path-after (suc k) (omega arith) (omega (arith, belongs .within)) ∙ ap (pathInRow rows lens) (omega arith))))))
 
   pub put-collected : Collected (record { weight = weight; path = take len row }) (collected rows lens weights count) count (set rows₁ i row) (set lens₁ i len)
       (set weights₁ i weight) (count + 1)
@@ -300,24 +301,24 @@ module _ (rows : List (List ℕ)) (lens weights : List ℕ) (count : ℕ) (table
 
 -- the weight of row i grows
 module _ (rows : List (List ℕ)) (lens weights : List ℕ) (count : ℕ) (table : PathTable rows lens weights count) (p : List ℕ) (weight i : ℕ)
-    (b : i < count) (e : p ≡ pathAt rows lens i) where
+    (b : i < count) (e : p ≡ pathInRow rows lens i) where
   h : ℕ → Weighted
-  h = collectedAt rows lens (set weights i (at weights i + weight))
+  h = collectedAt rows lens (set weights i (nth weights i + weight))
 
   grown-same : (k : ℕ) → k ≢ i → h k ≡ collectedAt rows lens weights k
   unfolding h
-  grown-same k n = ap (λ (x : ℕ). record { weight = x; path = pathAt rows lens k }) (getD-set-other weights i k _ 0 n)
+  grown-same k n = ap (λ (x : ℕ). record { weight = x; path = pathInRow rows lens k }) (getD-set-other weights i k _ 0 n)
 
   grown-inserted : Inserted (record { weight = weight; path = p }) (collected rows lens weights count)
-      (collected rows lens (set weights i (at weights i + weight)) count)
+      (collected rows lens (set weights i (nth weights i + weight)) count)
   unfolding collected h
   grown-inserted =
-      added (tabulate (collectedAt rows lens weights) i 0) (tabulate (collectedAt rows lens weights) (count - suc i) (suc i)) (at weights i)
+      added (tabulate (collectedAt rows lens weights) i 0) (tabulate (collectedAt rows lens weights) (count - suc i) (suc i)) (nth weights i)
       (tab-split (collectedAt rows lens weights) i (suc (count - suc i)) count 0 i (omega arith) (omega arith) ∙
       ap
       (λ (q : List ℕ).
       tabulate (collectedAt rows lens weights) i 0 ++
-      (record { weight = at weights i; path = q } ∷ tabulate (collectedAt rows lens weights) (count - suc i) (suc i)))
+      (record { weight = nth weights i; path = q } ∷ tabulate (collectedAt rows lens weights) (count - suc i) (suc i)))
       (sym e))
       (tab-split h i (suc (count - suc i)) count 0 i (omega arith) (omega arith) ∙
       ap₂ _++_ (tab-same h (collectedAt rows lens weights) i 0 (λ k x y. grown-same k (λ q. omega arith)))
@@ -326,7 +327,7 @@ module _ (rows : List (List ℕ)) (lens weights : List ℕ) (count : ℕ) (table
       (tab-same h (collectedAt rows lens weights) (count - suc i) (suc i) (λ k x y. grown-same k (λ q. omega arith)))))
 
   pub grown-collected : Collected (record { weight = weight; path = p }) (collected rows lens weights count) count rows lens
-      (set weights i (at weights i + weight)) count
+      (set weights i (nth weights i + weight)) count
   grown-collected =
       record {
         table =

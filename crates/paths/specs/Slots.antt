@@ -15,7 +15,7 @@ use Rattle.mathematics.specs.Reach.{useful}
 use Rattle.mathematics.specs.Links.{Link, opening, closing, inside, across, reading, linkFrom, linkTo}
 use Rattle.forms.specs.GraphForm.{vertexCount, arcCount, openingPrice, arcAt, arcTail, arcHead, arcCost, arcDemand, vertexDemand}
 use Rattle.forms.specs.GraphOf.{graphOf}
-use Rattle.network.specs.Network.{at, sumTo}
+use Rattle.network.specs.Network.{nth, sumTo}
 
 -- the prepared reads of the graph form s
 abbrev pub preparedOf : List ℕ → List (List ℕ)
@@ -94,4 +94,4 @@ firstLoad s e =
 
 -- the copies that the loads open
 abbrev pub copiesOf : List ℕ → List ℕ → ℕ
-copiesOf s full = sumTo (vertexCount s) (λ k. at full (vertexCount s + arcCount s + k))
+copiesOf s full = sumTo (vertexCount s) (λ k. nth full (vertexCount s + arcCount s + k))

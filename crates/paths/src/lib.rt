@@ -3,16 +3,21 @@
 // The paths that are taken off, merged in order.
 mod collect;
 
+use network::EDGES;
+use network::NODES;
+use reads::ROW;
+use reads::ROWS;
 ghost use mathlib.Core.Path.{_≡_};
 ghost use Prim.Native.Nat.{ℕ, _+_, _*_, _<_, _≤_};
 ghost use mathlib.Core.List.{[], map};
 ghost use lib.ListN.{length, take, getD};
 ghost use Rattle.mathematics.specs.Lists.{All};
 ghost use Rattle.mathematics.specs.Links.{linkVertices, pathOf};
-ghost use Rattle.network.specs.Network.{at, Chained};
+ghost use Rattle.network.specs.Network.{nth, Chained, mostNodes, mostEdges, mostMoved};
 ghost use Rattle.forms.specs.GraphForm.{vertexCount};
 ghost use Rattle.paths.specs.Slots.{preparedOf, allSlots, readingSlot, linkAt};
 ghost use Rattle.paths.specs.Peel.{collected, RowFits, PathTable, ReadsHeld, Written, GoesRound, worthOf, Circles, NextLoaded, Walked, TakenOff, Ready, opensAt, PeeledOne, Peeled};
+ghost use Rattle.reads.specs.ReadTable.{rowLength, tableRows};
 
 // A walk's number of edges, and the least load on them.
 struct Trip {
@@ -24,13 +29,13 @@ struct Trip {
 fn next_loaded(
     nodes: usize,
     edges: usize,
-    from: &[usize; 464],
-    head: &[usize; 129],
-    next: &[usize; 464],
-    load: &[u64; 464],
+    from: &[usize; EDGES],
+    head: &[usize; NODES],
+    next: &[usize; EDGES],
+    load: &[u64; EDGES],
     u: usize,
 ) -> usize
-    requires sizes { ⌜ (nodes ≤ 129) × (edges ≤ 464) × (u < nodes) ⌝ }
+    requires sizes { ⌜ (nodes ≤ mostNodes) × (edges ≤ mostEdges) × (u < nodes) ⌝ }
     requires chained { ⌜ Chained nodes edges (now from) (now head) (now next) ⌝ }
     ensures { λ r. ⌜ NextLoaded edges (now (from .entry)) (now (load .entry)) u r ⌝ }
 {
@@ -48,21 +53,21 @@ fn next_loaded(
 fn walk(
     nodes: usize,
     edges: usize,
-    from: &[usize; 464],
-    to: &[usize; 464],
-    head: &[usize; 129],
-    next: &[usize; 464],
-    load: &[u64; 464],
+    from: &[usize; EDGES],
+    to: &[usize; EDGES],
+    head: &[usize; NODES],
+    next: &[usize; EDGES],
+    load: &[u64; EDGES],
     first: usize,
-    way: &mut [usize; 129],
+    way: &mut [usize; NODES],
 ) -> Trip
-    requires sizes { ⌜ (nodes ≤ 129) × (edges ≤ 464) ⌝ }
+    requires sizes { ⌜ (nodes ≤ mostNodes) × (edges ≤ mostEdges) ⌝ }
     requires chained { ⌜ Chained nodes edges (now from) (now head) (now next) ⌝ }
     requires circles { ⌜ Circles nodes edges (now from) (now to) (now load) ⌝ }
     requires begins { ⌜ NextLoaded edges (now from) (now load) 0 (first + 1) ⌝ }
-    requires room { ⌜ length (now way) ≡ 129 ⌝ }
+    requires room { ⌜ length (now way) ≡ mostNodes ⌝ }
     ensures walked { λ r. ⌜ Walked edges (now (from .entry)) (now (to .entry)) (now (load .entry)) (now (way .exit)) (r .len) (r .amount) ⌝ }
-    ensures long { λ r. ⌜ length (now (way .exit)) ≡ 129 ⌝ }
+    ensures long { λ r. ⌜ length (now (way .exit)) ≡ mostNodes ⌝ }
 {
     way[0] = first;
     let mut len: usize = 1;
@@ -83,14 +88,14 @@ fn walk(
 // Each edge of the way loses the amount.
 fn take_off(
     edges: usize,
-    from: &[usize; 464],
-    to: &[usize; 464],
-    way: &[usize; 129],
+    from: &[usize; EDGES],
+    to: &[usize; EDGES],
+    way: &[usize; NODES],
     len: usize,
     amount: u64,
-    load: &mut [u64; 464],
+    load: &mut [u64; EDGES],
 )
-    requires sizes { ⌜ (edges ≤ 464) × (length (now way) ≡ 129) × (length (now load) ≡ 464) ⌝ }
+    requires sizes { ⌜ (edges ≤ mostEdges) × (length (now way) ≡ mostNodes) × (length (now load) ≡ mostEdges) ⌝ }
     requires walked { ⌜ Walked edges (now from) (now to) (now load) (now way) len amount ⌝ }
     ensures { λ _. ⌜ TakenOff edges (now (load .entry)) (take len (now (way .entry))) amount (now (load .exit)) ⌝ }
 {
@@ -103,8 +108,8 @@ fn take_off(
 }
 
 // Puts the read of row i behind the first r vertices of a path.
-fn copy_read(rows: &[[u8; 64]; 16], i: usize, size: usize, row: &mut [u8; 64], r: usize)
-    requires { ⌜ (i < 16) × (r + size ≤ 64) × (length (now row) ≡ 64) × (length (getD (now rows) i []) ≡ 64) ⌝ }
+fn copy_read(rows: &[[u8; ROW]; ROWS], i: usize, size: usize, row: &mut [u8; ROW], r: usize)
+    requires { ⌜ (i < tableRows) × (r + size ≤ rowLength) × (length (now row) ≡ rowLength) × (length (getD (now rows) i []) ≡ rowLength) ⌝ }
     ensures { λ _. ⌜ Written (now (row .entry)) r (take size (getD (now (rows .entry)) i [])) (now (row .exit)) (r + size) ⌝ }
 {
     let mut k: usize = 0;
@@ -119,14 +124,14 @@ fn put_link(
     s: &[u8],
     vertices: usize,
     plain: usize,
-    rows: &[[u8; 64]; 16],
-    lens: &[usize; 16],
+    rows: &[[u8; ROW]; ROWS],
+    lens: &[usize; ROWS],
     e: usize,
-    row: &mut [u8; 64],
+    row: &mut [u8; ROW],
     r: usize,
 ) -> usize
     requires held { ⌜ ReadsHeld (now s) vertices plain (now rows) (now lens) ⌝ }
-    requires room { ⌜ (e < allSlots (now s)) × (length (now row) ≡ 64) × (r + length (linkVertices (linkAt (now s) e)) ≤ 64) ⌝ }
+    requires room { ⌜ (e < allSlots (now s)) × (length (now row) ≡ rowLength) × (r + length (linkVertices (linkAt (now s) e)) ≤ rowLength) ⌝ }
     ensures { λ t. ⌜ Written (now (row .entry)) r (linkVertices (linkAt (now (s .entry)) e)) (now (row .exit)) t ⌝ }
 {
     if e < vertices {
@@ -147,15 +152,15 @@ fn path_of(
     s: &[u8],
     vertices: usize,
     plain: usize,
-    rows: &[[u8; 64]; 16],
-    lens: &[usize; 16],
-    way: &[usize; 129],
+    rows: &[[u8; ROW]; ROWS],
+    lens: &[usize; ROWS],
+    way: &[usize; NODES],
     len: usize,
-    row: &mut [u8; 64],
+    row: &mut [u8; ROW],
 ) -> usize
     requires held { ⌜ ReadsHeld (now s) vertices plain (now rows) (now lens) ⌝ }
-    requires walk { ⌜ (len ≤ 129) × (length (now way) ≡ 129) × All (λ e. e < allSlots (now s)) (take len (now way)) ⌝ }
-    requires room { ⌜ (length (now row) ≡ 64) × (length (pathOf (map (linkAt (now s)) (take len (now way)))) ≤ 64) ⌝ }
+    requires walk { ⌜ (len ≤ mostNodes) × (length (now way) ≡ mostNodes) × All (λ e. e < allSlots (now s)) (take len (now way)) ⌝ }
+    requires room { ⌜ (length (now row) ≡ rowLength) × (length (pathOf (map (linkAt (now s)) (take len (now way)))) ≤ rowLength) ⌝ }
     ensures fits { λ r. ⌜ RowFits (now (row .exit)) r ⌝ }
     ensures path { λ r. ⌜ take r (now (row .exit)) ≡ pathOf (map (linkAt (now (s .entry))) (take len (now (way .entry)))) ⌝ }
 {
@@ -174,29 +179,29 @@ fn peel_one(
     vertices: usize,
     plain: usize,
     edges: usize,
-    from: &[usize; 464],
-    to: &[usize; 464],
-    head: &[usize; 129],
-    next: &[usize; 464],
-    rows: &[[u8; 64]; 16],
-    lens: &[usize; 16],
+    from: &[usize; EDGES],
+    to: &[usize; EDGES],
+    head: &[usize; NODES],
+    next: &[usize; EDGES],
+    rows: &[[u8; ROW]; ROWS],
+    lens: &[usize; ROWS],
     first: usize,
-    load: &mut [u64; 464],
-    way: &mut [usize; 129],
-    row: &mut [u8; 64],
-    paths: &mut [[u8; 64]; 464],
-    sizes: &mut [usize; 464],
-    weights: &mut [u64; 464],
+    load: &mut [u64; EDGES],
+    way: &mut [usize; NODES],
+    row: &mut [u8; ROW],
+    paths: &mut [[u8; ROW]; EDGES],
+    sizes: &mut [usize; EDGES],
+    weights: &mut [u64; EDGES],
     count: usize,
 ) -> usize
     requires ready { ⌜ Ready (now s) vertices plain edges (now from) (now head) (now next) (now rows) (now lens) ⌝ }
     requires goes { ⌜ GoesRound (now s) (2 * vertexCount (now s) + 1) (now from) (now to) (now load) ⌝ }
     requires begins { ⌜ NextLoaded edges (now from) (now load) 0 (first + 1) ⌝ }
-    requires sized { ⌜ (length (now load) ≡ 464) × (length (now way) ≡ 129) × (length (now row) ≡ 64) ⌝ }
+    requires sized { ⌜ (length (now load) ≡ mostEdges) × (length (now way) ≡ mostNodes) × (length (now row) ≡ rowLength) ⌝ }
     requires table { ⌜ PathTable (now paths) (now sizes) (now weights) count ⌝ }
-    requires room { ⌜ (count < 464) × ((k : ℕ) → k < count → at (now weights) k + worthOf (now s) (now load) (opensAt (now s)) ≤ 1000000000000) ⌝ }
+    requires room { ⌜ (count < mostEdges) × ((k : ℕ) → k < count → nth (now weights) k + worthOf (now s) (now load) (opensAt (now s)) ≤ mostMoved) ⌝ }
     ensures one { λ r. ⌜ PeeledOne (now (s .entry)) (now (from .entry)) (now (to .entry)) (now (load .entry)) (now (load .exit)) (collected (now (paths .entry)) (now (sizes .entry)) (now (weights .entry)) count) count (now (paths .exit)) (now (sizes .exit)) (now (weights .exit)) r ⌝ }
-    ensures sized { λ r. ⌜ (length (now (way .exit)) ≡ 129) × (length (now (row .exit)) ≡ 64) ⌝ }
+    ensures sized { λ r. ⌜ (length (now (way .exit)) ≡ mostNodes) × (length (now (row .exit)) ≡ rowLength) ⌝ }
 {
     let nodes = 2 * vertices + 1;
     let trip = walk(nodes, edges, from, to, head, next, load, first, way);
@@ -213,28 +218,28 @@ pub fn peel_all(
     vertices: usize,
     plain: usize,
     edges: usize,
-    from: &[usize; 464],
-    to: &[usize; 464],
-    head: &[usize; 129],
-    next: &[usize; 464],
-    rows: &[[u8; 64]; 16],
-    lens: &[usize; 16],
-    load: &mut [u64; 464],
-    paths: &mut [[u8; 64]; 464],
-    sizes: &mut [usize; 464],
-    weights: &mut [u64; 464],
+    from: &[usize; EDGES],
+    to: &[usize; EDGES],
+    head: &[usize; NODES],
+    next: &[usize; EDGES],
+    rows: &[[u8; ROW]; ROWS],
+    lens: &[usize; ROWS],
+    load: &mut [u64; EDGES],
+    paths: &mut [[u8; ROW]; EDGES],
+    sizes: &mut [usize; EDGES],
+    weights: &mut [u64; EDGES],
 ) -> usize
     requires ready { ⌜ Ready (now s) vertices plain edges (now from) (now head) (now next) (now rows) (now lens) ⌝ }
     requires goes { ⌜ GoesRound (now s) (2 * vertexCount (now s) + 1) (now from) (now to) (now load) ⌝ }
-    requires carries { ⌜ ((r : ℕ) → r < length (preparedOf (now s)) → 1 ≤ at (now load) (readingSlot (now s) r)) ⌝ }
-    requires low { ⌜ worthOf (now s) (now load) (opensAt (now s)) ≤ 320000016 ⌝ }
-    requires sized { ⌜ (length (now load) ≡ 464) × (length (now paths) ≡ 464) × (length (now sizes) ≡ 464) × (length (now weights) ≡ 464) ⌝ }
+    requires carries { ⌜ ((r : ℕ) → r < length (preparedOf (now s)) → 1 ≤ nth (now load) (readingSlot (now s) r)) ⌝ }
+    requires low { ⌜ worthOf (now s) (now load) (opensAt (now s)) ≤ mostMoved ⌝ }
+    requires sized { ⌜ (length (now load) ≡ mostEdges) × (length (now paths) ≡ mostEdges) × (length (now sizes) ≡ mostEdges) × (length (now weights) ≡ mostEdges) ⌝ }
     ensures peeled { λ r. ⌜ Peeled (now (s .entry)) (now (load .entry)) (collected (now (paths .exit)) (now (sizes .exit)) (now (weights .exit)) r) ⌝ }
     ensures table { λ r. ⌜ PathTable (now (paths .exit)) (now (sizes .exit)) (now (weights .exit)) r ⌝ }
 {
     let nodes = 2 * vertices + 1;
-    let mut way = [0usize; 129];
-    let mut row = [0u8; 64];
+    let mut way = [0usize; NODES];
+    let mut row = [0u8; ROW];
     let mut count: usize = 0;
     let mut h = next_loaded(nodes, edges, from, head, next, load, 0);
     while 0 < h {

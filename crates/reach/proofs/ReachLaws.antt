@@ -15,7 +15,8 @@ use Rattle.forms.specs.GraphForm.{vertexCount, arcCount, flags, arcAt}
 use Rattle.forms.specs.GraphOf.{vertexOf, graphOf}
 use Rattle.forms.specs.GraphReads.{ArcsRight}
 use Rattle.forms.proofs.ArcLaws.{tailOf, headOf}
-use Rattle.reach.specs.Reached.{Counted}
+use Rattle.reach.specs.Reached.{FormSizes}
+use Rattle.forms.specs.Limits.{maxVertices}
 
 -- the first i places of an array of `size` hold what f says
 pub record Filled {A : Type 0} (size : ℕ) (d : A) (f : ℕ → A) (xs : List A) (i : ℕ) : Type 0 where
@@ -74,11 +75,11 @@ module _ (s : List ℕ) where
         subst (λ k. tailOf s a ≤ tailOf s k) e (later (b - a) a (omega arith))
 
 -- where the record of arc a stands
-pub its-place : {s : List ℕ} {n m : ℕ} → Counted s n m → (a : ℕ) → arcAt s a ≡ 13 + 5 * n + 10 * a
+pub its-place : {s : List ℕ} {n m : ℕ} → FormSizes s n m → (a : ℕ) → arcAt s a ≡ 13 + 5 * n + 10 * a
 its-place c a = omega (arith, c .vertices)
 
 -- what stands in the record of arc a
-module _ {s : List ℕ} {n m : ℕ} (c : Counted s n m) (a : ℕ) (low : a < m) where
+module _ {s : List ℕ} {n m : ℕ} (c : FormSizes s n m) (a : ℕ) (low : a < m) where
   its-offset : 13 + 5 * n + 10 * a ≡ arcAt s a
   its-offset = sym (its-place c a)
 
@@ -95,7 +96,7 @@ module _ {s : List ℕ} {n m : ℕ} (c : Counted s n m) (a : ℕ) (low : a < m) 
     pub head-read : at ≡ 13 + 5 * n + 10 * a + 1 → w ≡ headOf s a
     head-read o = e ∙ ap (byte s) (o ∙ ap (λ i. i + 1) its-offset)
 
-    pub tail-low : at ≡ 13 + 5 * n + 10 * a → w < 64
+    pub tail-low : at ≡ 13 + 5 * n + 10 * a → w < maxVertices
     tail-low o =
         omega (
           arith,
@@ -105,5 +106,5 @@ module _ {s : List ℕ} {n m : ℕ} (c : Counted s n m) (a : ℕ) (low : a < m) 
           c .reads .arcs .header .few-vertices,
         )
 
-    pub head-low : at ≡ 13 + 5 * n + 10 * a + 1 → w < 64
+    pub head-low : at ≡ 13 + 5 * n + 10 * a + 1 → w < maxVertices
     head-low o = omega (arith, head-read o, c .reads .arcs .each a its-number .inside, c .reads .arcs .header .few-vertices)

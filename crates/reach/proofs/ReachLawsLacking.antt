@@ -23,7 +23,8 @@ use Rattle.forms.specs.GraphReads.{ReadRight, ReadsRight}
 use Rattle.forms.proofs.GraphFacts.{length-tabulate}
 use Rattle.forms.proofs.GraphRange.{vertices-length}
 use Rattle.forms.specs.BuildFaults.{asksLieVerdict, readsLieVerdict}
-use Rattle.reach.specs.Reached.{Counted, Marked, vertexAsk, recordAsk, lacks, lieVerdict}
+use Rattle.reach.specs.Reached.{FormSizes, Reachable, vertexAsk, recordAsk, lacks, lieVerdict}
+use Rattle.forms.specs.Limits.{maxVertices, maxReads}
 
 -- ---- one item
 
@@ -45,9 +46,9 @@ module _ (G : Graph ℤ) (a : Ask) where
   ask-lacks ne e = simp (ne-eqb _ _ ne, e)
 
 -- what the arrays say of what begins with u and ends with v
-pub marked-lies : {s : List ℕ} {xs ys : List Bool} → Marked s xs ys → {x y u v : ℕ} → x ≡ u → y ≡ v → u < vertexCount s → v < vertexCount s → {r b : Bool} →
+pub reachable-lies : {s : List ℕ} {xs ys : List Bool} → Reachable s xs ys → {x y u v : ℕ} → x ≡ u → y ≡ v → u < vertexCount s → v < vertexCount s → {r b : Bool} →
     r ≡ (getD xs x false && getD ys y false) → r ≡ b → (fromStart (graphOf s) u && toEnd (graphOf s) v) ≡ b
-marked-lies {s} {xs} {ys} m {x} {y} {u} {v} eu ev lu lv e q =
+reachable-lies {s} {xs} {ys} m {x} {y} {u} {v} eu ev lu lv e q =
     ap₂ (λ x y. x && y) (sym (m .starts .says u lu) ∙ ap (λ k. getD xs k false) (sym eu)) (sym (m .ends .says v lv) ∙ ap (λ k. getD ys k false) (sym ev)) ∙
     sym e ∙ q
 
@@ -119,7 +120,7 @@ unfolding graphOf
 arcs-then s n m k after e b = arcs-found s n (arcCount s) 0 k after b ∙ ap (λ j. then (overArcs s n j) after) (sym e)
 
 -- vertices, then arcs, then reads: the first that lacks decides
-pub lie-then : {s : List ℕ} {n m : ℕ} → Counted s n m → lieVerdict (graphOf s) nothingRefused ≡ then (overVertices s n) (then (overArcs s n m) (overReads s n m))
+pub lie-then : {s : List ℕ} {n m : ℕ} → FormSizes s n m → lieVerdict (graphOf s) nothingRefused ≡ then (overVertices s n) (then (overArcs s n m) (overReads s n m))
 unfolding lieVerdict
 lie-then {s} {n} {m} c =
     asks-append (graphOf s) 0 (vertexAsks 0 (graphOf s .vertices)) (map arcAsk (graphOf s .arcs)) _ ∙ vertices-then s n _ (c .vertices) ∙
@@ -170,11 +171,11 @@ read-ends s at r = by (readLength s at) refl
 -- k of count reads are passed, and the next stands at an offset
 pub record ReadsLeft (s : List ℕ) (n m count k at : ℕ) : Type 0 where
   pub most : k ≤ count
-  pub few : count ≤ 16
+  pub few : count ≤ maxReads
   pub right : ReadsRight s (count - k) at
   pub same : overReads s n m ≡ readsLieVerdict (graphOf s) (n + m + k) (readsFrom s (count - k) at) nothingRefused
 
-module _ {s : List ℕ} {n m : ℕ} (c : Counted s n m) where
+module _ {s : List ℕ} {n m : ℕ} (c : FormSizes s n m) where
   pub reads-begin : {count at : ℕ} → count ≡ readCount s → at ≡ firstReadAt s → ReadsLeft s n m count 0 at
   unfolding graphOf
   reads-begin {count} {at} e o =
@@ -228,16 +229,16 @@ module _ {s : List ℕ} {n m : ℕ} (c : Counted s n m) where
         sym (left .same ∙ ap (λ j. readsLieVerdict (graphOf s) (n + m + k) (readsFrom s j at) nothingRefused) none)
 
 -- what a read's first and last byte say of it
-module _ {s : List ℕ} {xs ys : List Bool} (m : Marked s xs ys) {at : ℕ} (r : ReadRight s at) {x y len : ℕ} (first : x ≡ byte s (at + 1))
+module _ {s : List ℕ} {xs ys : List Bool} (m : Reachable s xs ys) {at : ℕ} (r : ReadRight s at) {x y len : ℕ} (first : x ≡ byte s (at + 1))
     (last : y ≡ byte s (at + len)) (counted : len ≡ readLength s at) where
   last-is : y ≡ byte s (at + readLength s at)
   last-is = last ∙ ap (λ k. byte s (at + k)) counted
 
-  pub ends-low : (x < 64) × (y < 64)
+  pub ends-low : (x < maxVertices) × (y < maxVertices)
   ends-low =
       let e = read-ends s at r in
       let few = m .reads .arcs .header .few-vertices in
       (omega (arith, e .first-low), omega (arith, e .last-low, last-is))
 
   pub ends-lie : {b : Bool} → b ≡ (getD xs x false && getD ys y false) → b ≡ readLies (graphOf s) (readVertices s at)
-  ends-lie e = let q = read-ends s at r in sym (marked-lies m first last-is (q .first-low) (q .last-low) e refl) ∙ sym (q .lies)
+  ends-lie e = let q = read-ends s at r in sym (reachable-lies m first last-is (q .first-low) (q .last-low) e refl) ∙ sym (q .lies)

@@ -20,6 +20,7 @@ use Rattle.forms.specs.GraphOf.{graphOf}
 use Rattle.forms.specs.GraphReads.{Reads}
 use Rattle.forms.proofs.GraphFacts.{graph-well-formed}
 use Rattle.reach.specs.Reached.{Tells}
+use Rattle.forms.specs.Limits.{maxVertices}
 use Rattle.forms.proofs.ArcLaws.{tailOf, headOf}
 use Rattle.forms.proofs.ArcNumbers.{arc-there, arc-number}
 use Rattle.reach.proofs.ReachLaws.{arc-inside, tails-rise}
@@ -37,12 +38,12 @@ pub record Spreads (n m : ℕ) (S F : ℕ → Bool) (t h : ℕ → ℕ) : Type 0
 
 -- The seeds are marked, and the heads of those arcs that are done; nothing is marked of which F does not hold.
 pub record Passing (n m : ℕ) (S F : ℕ → Bool) (t h : ℕ → ℕ) (Done : ℕ → Type 0) (xs : List Bool) : Type 0 where
-  pub long : length xs ≡ 64
+  pub long : length xs ≡ maxVertices
   pub sound : (v : ℕ) → v < n → T (getD xs v false) → T (F v)
   pub seeded : (v : ℕ) → v < n → T (S v) → T (getD xs v false)
   pub done : (b : ℕ) → b < m → Done b → T (F (t b)) → T (getD xs (h b) false)
 
-module _ {n m : ℕ} {S F : ℕ → Bool} {t h : ℕ → ℕ} (sp : Spreads n m S F t h) (few : n ≤ 64) where
+module _ {n m : ℕ} {S F : ℕ → Bool} {t h : ℕ → ℕ} (sp : Spreads n m S F t h) (few : n ≤ maxVertices) where
   -- a vertex is settled once the arcs to it are done
   settled : {Done : ℕ → Type 0} {xs : List Bool} → Passing n m S F t h Done xs → (v : ℕ) → v < n →
       ((b : ℕ) → b < m → h b ≡ v → Done b) → getD xs v false ≡ F v
@@ -181,7 +182,7 @@ module _ (s : List ℕ) (r : Reads s) where
         inside = λ b l. let x = arc-inside s (r .arcs) b l in (x .1, omega (arith, x .0, x .1));
       }
 
-  few : vertexCount s ≤ 64
+  few : vertexCount s ≤ maxVertices
   few = r .arcs .header .few-vertices
 
   pub ahead-begins : {xs : List Bool} → Tells s (isStart (graphOf s)) xs → Ahead s 0 xs

@@ -14,20 +14,21 @@ use Rattle.forms.specs.GraphForm.{vertexCount, arcCount, vertexDemand, arcTail,
 use Rattle.forms.specs.GraphOf.{graphOf}
 use Rattle.forms.specs.GraphReads.{Reads}
 use Rattle.forms.specs.BuildFaults.{asksLieVerdict, readsLieVerdict}
+use Rattle.forms.specs.Limits.{maxVertices}
 
 -- n and m are the numbers of vertices and arcs of a form that reads
-pub record Counted (s : List ℕ) (n m : ℕ) : Type 0 where
+pub record FormSizes (s : List ℕ) (n m : ℕ) : Type 0 where
   pub reads : Reads s
   pub vertices : n ≡ vertexCount s
   pub arcs : m ≡ arcCount s
 
--- for each vertex of the form s the array of 64 says what f says of it
+-- for each vertex of the form s the array, with room for as many as there can be, says what f says of it
 pub record Tells (s : List ℕ) (f : ℕ → Bool) (xs : List Bool) : Type 0 where
-  pub long : length xs ≡ 64
+  pub long : length xs ≡ maxVertices
   pub says : (v : ℕ) → v < vertexCount s → getD xs v false ≡ f v
 
 -- the arrays tell which vertices are reached from a start, and which reach an end
-pub record Marked (s : List ℕ) (reached reaching : List Bool) : Type 0 where
+pub record Reachable (s : List ℕ) (reached reaching : List Bool) : Type 0 where
   pub reads : Reads s
   pub starts : Tells s (fromStart (graphOf s)) reached
   pub ends : Tells s (toEnd (graphOf s)) reaching

@@ -15,11 +15,12 @@ ghost use Rattle.forms.specs.GraphOf.{graphOf};
 ghost use Rattle.forms.specs.GraphReads.{Reads, ArcRight, ReadRight};
 ghost use Rattle.forms.specs.GraphFaults.{firstFault, nothingRefused};
 ghost use Rattle.forms.specs.BuildFaults.{readsLieVerdict};
-ghost use Rattle.reach.specs.Reached.{Tells, Counted, Marked, vertexAsk, recordAsk, lacks, lieVerdict};
+ghost use Rattle.reach.specs.Reached.{Tells, FormSizes, Reachable, vertexAsk, recordAsk, lacks, lieVerdict};
+ghost use Rattle.forms.specs.Limits.{maxVertices};
 
 // Marks the starts.
 fn mark_starts(s: &[u8], n: usize, reached: &mut [bool; Graph::MAX_VERTICES])
-    requires { ⌜ Reads (now s) × (n ≡ vertexCount (now s)) × (length (now reached) ≡ 64) ⌝ }
+    requires { ⌜ Reads (now s) × (n ≡ vertexCount (now s)) × (length (now reached) ≡ maxVertices) ⌝ }
     ensures { λ _. ⌜ Tells (now (s .entry)) (isStart (graphOf (now (s .entry)))) (now (reached .exit)) ⌝ }
 {
     let mut v = 0;
@@ -31,7 +32,7 @@ fn mark_starts(s: &[u8], n: usize, reached: &mut [bool; Graph::MAX_VERTICES])
 
 // Marks the ends.
 fn mark_ends(s: &[u8], n: usize, reaching: &mut [bool; Graph::MAX_VERTICES])
-    requires { ⌜ Reads (now s) × (n ≡ vertexCount (now s)) × (length (now reaching) ≡ 64) ⌝ }
+    requires { ⌜ Reads (now s) × (n ≡ vertexCount (now s)) × (length (now reaching) ≡ maxVertices) ⌝ }
     ensures { λ _. ⌜ Tells (now (s .entry)) (isEnd (graphOf (now (s .entry)))) (now (reaching .exit)) ⌝ }
 {
     let mut v = 0;
@@ -43,7 +44,7 @@ fn mark_ends(s: &[u8], n: usize, reaching: &mut [bool; Graph::MAX_VERTICES])
 
 // Marks what the starts lead to. Arcs are sorted by tail and rise, so a tail is settled before its arcs come: one pass is enough.
 pub fn reach_from_starts(s: &[u8], reached: &mut [bool; Graph::MAX_VERTICES])
-    requires { ⌜ Reads (now s) × (length (now reached) ≡ 64) ⌝ }
+    requires { ⌜ Reads (now s) × (length (now reached) ≡ maxVertices) ⌝ }
     ensures { λ _. ⌜ Tells (now (s .entry)) (fromStart (graphOf (now (s .entry)))) (now (reached .exit)) ⌝ }
 {
     let n = wide(s[Graph::AT_VERTICES]);
@@ -64,7 +65,7 @@ pub fn reach_from_starts(s: &[u8], reached: &mut [bool; Graph::MAX_VERTICES])
 
 // Marks what leads on to an end: the same from the last arc down.
 pub fn reach_ends(s: &[u8], reaching: &mut [bool; Graph::MAX_VERTICES])
-    requires { ⌜ Reads (now s) × (length (now reaching) ≡ 64) ⌝ }
+    requires { ⌜ Reads (now s) × (length (now reaching) ≡ maxVertices) ⌝ }
     ensures { λ _. ⌜ Tells (now (s .entry)) (toEnd (graphOf (now (s .entry)))) (now (reaching .exit)) ⌝ }
 {
     let n = wide(s[Graph::AT_VERTICES]);
@@ -89,7 +90,7 @@ fn lies(
     reached: &[bool; Graph::MAX_VERTICES],
     reaching: &[bool; Graph::MAX_VERTICES],
 ) -> bool
-    requires { ⌜ (u < 64) × (v < 64) ⌝ }
+    requires { ⌜ (u < maxVertices) × (v < maxVertices) ⌝ }
     ensures { λ r. ⌜ r ≡ (getD (now (reached .entry)) u false && getD (now (reaching .entry)) v false) ⌝ }
 {
     if reached[u] {
@@ -105,7 +106,7 @@ fn vertex_lacks(
     reached: &[bool; Graph::MAX_VERTICES],
     reaching: &[bool; Graph::MAX_VERTICES],
 ) -> usize
-    requires { ⌜ Marked (now s) (now reached) (now reaching) × (v < vertexCount (now s)) ⌝ }
+    requires { ⌜ Reachable (now s) (now reached) (now reaching) × (v < vertexCount (now s)) ⌝ }
     ensures { λ r. ⌜ r ≡ lacks (graphOf (now (s .entry))) (vertexAsk (now (s .entry)) v) ⌝ }
 {
     if be32(s, Graph::HEADER + Graph::VERTEX * v + 1) == 0 {
@@ -124,7 +125,7 @@ fn arc_lacks(
     reached: &[bool; Graph::MAX_VERTICES],
     reaching: &[bool; Graph::MAX_VERTICES],
 ) -> usize
-    requires { ⌜ Marked (now s) (now reached) (now reaching) × ArcRight (now s) at ⌝ }
+    requires { ⌜ Reachable (now s) (now reached) (now reaching) × ArcRight (now s) at ⌝ }
     ensures { λ r. ⌜ r ≡ lacks (graphOf (now (s .entry))) (recordAsk (now (s .entry)) at) ⌝ }
 {
     if be32(s, at + 6) == 0 {
@@ -143,7 +144,7 @@ fn vertices_lie(
     reached: &[bool; Graph::MAX_VERTICES],
     reaching: &[bool; Graph::MAX_VERTICES],
 ) -> Verdict
-    requires { ⌜ Marked (now s) (now reached) (now reaching) × (n ≡ vertexCount (now s)) ⌝ }
+    requires { ⌜ Reachable (now s) (now reached) (now reaching) × (n ≡ vertexCount (now s)) ⌝ }
     ensures { λ r. ⌜ r ≡ firstFault (λ v. lacks (graphOf (now (s .entry))) (vertexAsk (now (s .entry)) v)) (λ v. v) n 0 ⌝ }
 {
     let mut v = 0;
@@ -165,7 +166,7 @@ fn arcs_lie(
     reached: &[bool; Graph::MAX_VERTICES],
     reaching: &[bool; Graph::MAX_VERTICES],
 ) -> Verdict
-    requires { ⌜ Marked (now s) (now reached) (now reaching) × Counted (now s) n m ⌝ }
+    requires { ⌜ Reachable (now s) (now reached) (now reaching) × FormSizes (now s) n m ⌝ }
     ensures { λ r. ⌜ r ≡ firstFault (λ a. lacks (graphOf (now (s .entry))) (recordAsk (now (s .entry)) (arcAt (now (s .entry)) a))) (λ a. n + a) m 0 ⌝ }
 {
     let base = Graph::HEADER + Graph::VERTEX * n;
@@ -187,7 +188,7 @@ fn read_lies(
     reached: &[bool; Graph::MAX_VERTICES],
     reaching: &[bool; Graph::MAX_VERTICES],
 ) -> bool
-    requires { ⌜ Marked (now s) (now reached) (now reaching) × ReadRight (now s) at ⌝ }
+    requires { ⌜ Reachable (now s) (now reached) (now reaching) × ReadRight (now s) at ⌝ }
     ensures { λ r. ⌜ r ≡ readLies (graphOf (now (s .entry))) (readVertices (now (s .entry)) at) ⌝ }
 {
     let len = wide(s[at]);
@@ -202,7 +203,7 @@ fn reads_lie(
     reached: &[bool; Graph::MAX_VERTICES],
     reaching: &[bool; Graph::MAX_VERTICES],
 ) -> Verdict
-    requires { ⌜ Marked (now s) (now reached) (now reaching) × Counted (now s) n m ⌝ }
+    requires { ⌜ Reachable (now s) (now reached) (now reaching) × FormSizes (now s) n m ⌝ }
     ensures { λ r. ⌜ r ≡ readsLieVerdict (graphOf (now (s .entry))) (n + m) (graphOf (now (s .entry)) .reads) nothingRefused ⌝ }
 {
     let count = wide(s[Graph::AT_READS]);
@@ -224,7 +225,7 @@ pub fn first_lacking(
     reached: &[bool; Graph::MAX_VERTICES],
     reaching: &[bool; Graph::MAX_VERTICES],
 ) -> Verdict
-    requires { ⌜ Marked (now s) (now reached) (now reaching) ⌝ }
+    requires { ⌜ Reachable (now s) (now reached) (now reaching) ⌝ }
     ensures { λ r. ⌜ r ≡ lieVerdict (graphOf (now (s .entry))) nothingRefused ⌝ }
 {
     let n = wide(s[Graph::AT_VERTICES]);

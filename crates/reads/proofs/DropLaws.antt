@@ -12,8 +12,8 @@ use lib.Seq.{take-suc, drop-cons, take-take, take-suc-set, drop-set-lt, drop-dro
 use Rattle.mathematics.specs.Lists.{All, someHolds}
 use Rattle.mathematics.specs.Prepare.{someLonger, dropParts}
 use Rattle.mathematics.proofs.Dropped.{dropped-all}
-use Rattle.reads.specs.ReadTable.{rowAt, used, rowsOf, ReadHolds, TableHolds, heldFrom, longerFrom, gone}
-use Rattle.reads.proofs.TableLaws.{at-all}
+use Rattle.mathematics.proofs.Basics.{at-all}
+use Rattle.reads.specs.ReadTable.{rowAt, used, rowsOf, ReadHolds, TableHolds, heldFrom, longerFrom, gone, tableRows, rowLength}
 use Rattle.reads.proofs.TableRows.{used-set, used-rows, used-row, table-length, table-get}
 
 -- what holds of all and of a new element holds after it is stored
@@ -51,10 +51,10 @@ module _ (rows : List (List ℕ)) (lens : List ℕ) (count : ℕ) (t : TableHold
 pub record Moved (rows₀ : List (List ℕ)) (lens₀ : List ℕ) (count : ℕ) (rows : List (List ℕ)) (lens : List ℕ) (i w : ℕ) : Type 0 where
   pub far : i ≤ count
   pub less : w ≤ i
-  pub tall : length rows ≡ 16
-  pub wide : All (λ r. length r ≡ 64) rows
-  pub sized : length lens ≡ 16
-  pub fit : (k : ℕ) → k < w → getD lens k 0 ≤ 64
+  pub tall : length rows ≡ tableRows
+  pub wide : All (λ r. length r ≡ rowLength) rows
+  pub sized : length lens ≡ tableRows
+  pub fit : (k : ℕ) → k < w → getD lens k 0 ≤ rowLength
   pub same : (k : ℕ) → i ≤ k → getD lens k 0 ≡ getD lens₀ k 0
   pub rest : drop i (used rows lens) ≡ drop i (used rows₀ lens₀)
   pub kept : take w (used rows lens) ++ dropParts (take i (rowsOf rows₀ lens₀ count)) (drop i (rowsOf rows₀ lens₀ count)) ≡ dropParts [] (rowsOf rows₀ lens₀ count)
@@ -118,7 +118,7 @@ module _ (rows₀ : List (List ℕ)) (lens₀ : List ℕ) (count : ℕ) (rows : 
       ap (take (w + 1)) (keep-used l)
       ∙ rw (add-one w) (take-suc-set (used rows lens) w (getD (rowsOf rows₀ lens₀ count) i []) (omega (arith, used-rows rows lens (m .tall) (m .sized), m .less, t .counted)))
 
-  keep-fit : i < count → (k : ℕ) → k < w + 1 → getD (set lens w (getD lens i 0)) k 0 ≤ 64
+  keep-fit : i < count → (k : ℕ) → k < w + 1 → getD (set lens w (getD lens i 0)) k 0 ≤ rowLength
   keep-fit l k h =
       elim (decLt k w) [
         | yes b ↦ omega (arith, getD-set-other lens w k (getD lens i 0) 0 (omega arith), m .fit k b)
@@ -136,7 +136,7 @@ module _ (rows₀ : List (List ℕ)) (lens₀ : List ℕ) (count : ℕ) (rows : 
         far = omega arith;
         less = omega (arith, m .less);
         tall = length-set rows w (getD rows i []) ∙ m .tall;
-        wide = all-set (λ (r : List ℕ). length r ≡ 64) rows w (getD rows i []) (m .wide) (at-all (λ (r : List ℕ). length r ≡ 64) [] rows (m .wide) i (omega (arith, m .tall, t .counted)));
+        wide = all-set (λ (r : List ℕ). length r ≡ rowLength) rows w (getD rows i []) (m .wide) (at-all (λ (r : List ℕ). length r ≡ rowLength) [] rows (m .wide) i (omega (arith, m .tall, t .counted)));
         sized = length-set lens w (getD lens i 0) ∙ m .sized;
         fit = keep-fit l;
         same = λ k h. getD-set-other lens w k (getD lens i 0) 0 (omega (arith, m .less)) ∙ m .same k (omega arith);

@@ -9,8 +9,9 @@ use lib.ListN.{length, getD, take, drop, set, length-set, drop-of-length-le}
 use lib.Seq.{take-suc, drop-cons, take-nil, take-suc-set, take-set-lt, drop-set-lt, getD-set-same, getD-set-other}
 use Rattle.mathematics.specs.Lists.{All}
 use Rattle.mathematics.specs.Prepare.{without}
-use Rattle.reads.specs.ReadTable.{rowAt, used, rowsOf, ReadHolds, RowHolds, TableHolds, joinOf}
-use Rattle.reads.proofs.TableLaws.{at-all, row-get}
+use Rattle.mathematics.proofs.Basics.{at-all}
+use Rattle.reads.specs.ReadTable.{rowAt, used, rowsOf, ReadHolds, RowHolds, TableHolds, joinOf, tableRows, rowLength}
+use Rattle.reads.proofs.TableLaws.{row-get}
 use Rattle.reads.proofs.TableRows.{used-set, used-rows, used-row}
 use Rattle.reads.proofs.DropLaws.{all-set, later, there}
 
@@ -46,10 +47,10 @@ module _ {A : Type 0} where
 pub record Gap (rows₀ : List (List ℕ)) (lens₀ : List ℕ) (count gap : ℕ) (rows : List (List ℕ)) (lens : List ℕ) (k : ℕ) : Type 0 where
   pub from : gap ≤ k
   pub far : k < count
-  pub tall : length rows ≡ 16
-  pub wide : All (λ r. length r ≡ 64) rows
-  pub sized : length lens ≡ 16
-  pub fit : (m : ℕ) → m < count → getD lens m 0 ≤ 64
+  pub tall : length rows ≡ tableRows
+  pub wide : All (λ r. length r ≡ rowLength) rows
+  pub sized : length lens ≡ tableRows
+  pub fit : (m : ℕ) → m < count → getD lens m 0 ≤ rowLength
   pub done : take k (used rows lens) ≡ take k (without gap (used rows₀ lens₀))
   pub rest : drop k (used rows lens) ≡ drop k (used rows₀ lens₀)
 
@@ -83,13 +84,13 @@ module _ (rows₀ : List (List ℕ)) (lens₀ : List ℕ) (count gap : ℕ) (row
   gap-done : k + 1 < count →
       take (k + 1) (set (used rows lens) k (getD (without gap (used rows₀ lens₀)) k [])) ≡ take (k + 1) (without gap (used rows₀ lens₀))
   gap-done l =
-      let rows16 : length (used rows₀ lens₀) ≡ 16 = used-rows rows₀ lens₀ (t .tall) (t .sized) in
+      let all-rows : length (used rows₀ lens₀) ≡ tableRows = used-rows rows₀ lens₀ (t .tall) (t .sized) in
       rw (add-one k)
       (take-suc-set (used rows lens) k (getD (without gap (used rows₀ lens₀)) k []) (omega (arith, used-rows rows lens (g .tall) (g .sized), t .counted))
       ∙ (ap (λ (q : List (List ℕ)). q ++ (getD (without gap (used rows₀ lens₀)) k [] ∷ [])) (g .done)
       ∙ sym (take-suc (without gap (used rows₀ lens₀)) k [] (omega (arith, length-without gap (used rows₀ lens₀) (omega (arith, g .from, g .far, t .counted)), t .counted)))))
 
-  gap-fit : k + 1 < count → (m : ℕ) → m < count → getD (set lens k (getD lens (k + 1) 0)) m 0 ≤ 64
+  gap-fit : k + 1 < count → (m : ℕ) → m < count → getD (set lens k (getD lens (k + 1) 0)) m 0 ≤ rowLength
   gap-fit l m h =
       elim (ℕ-discrete m k) [
         | yes e ↦ rw e (omega (arith, getD-set-same lens k (getD lens (k + 1) 0) 0 (omega (arith, g .sized, t .counted)), g .fit (k + 1) l))
@@ -103,7 +104,7 @@ module _ (rows₀ : List (List ℕ)) (lens₀ : List ℕ) (count gap : ℕ) (row
         from = omega (arith, g .from);
         far = l;
         tall = length-set rows k (getD rows (k + 1) []) ∙ g .tall;
-        wide = all-set (λ (r : List ℕ). length r ≡ 64) rows k (getD rows (k + 1) []) (g .wide) (at-all (λ (r : List ℕ). length r ≡ 64) [] rows (g .wide) (k + 1) (omega (arith, g .tall, t .counted)));
+        wide = all-set (λ (r : List ℕ). length r ≡ rowLength) rows k (getD rows (k + 1) []) (g .wide) (at-all (λ (r : List ℕ). length r ≡ rowLength) [] rows (g .wide) (k + 1) (omega (arith, g .tall, t .counted)));
         sized = length-set lens k (getD lens (k + 1) 0) ∙ g .sized;
         fit = gap-fit l;
         done = ap (take (k + 1)) (gap-used l) ∙ gap-done l;
@@ -134,7 +135,7 @@ module _ (rows₀ : List (List ℕ)) (lens₀ : List ℕ) (count gap : ℕ) (row
 
 -- the row that is built: the read of row i, and what of the read of row j behind its first n numbers was copied
 pub record Built (rows : List (List ℕ)) (lens : List ℕ) (i j n : ℕ) (row : List ℕ) (at k : ℕ) : Type 0 where
-  pub wide : length row ≡ 64
+  pub wide : length row ≡ rowLength
   pub even : at + n ≡ getD lens i 0 + k
   pub far : k ≤ getD lens j 0
   pub read : take at row ++ drop k (rowAt rows lens j) ≡ joinOf rows lens i j n
@@ -147,7 +148,7 @@ built-start rows lens i j n g l = record { wide = g .wide; even = refl; far = l;
 
 module _ (rows : List (List ℕ)) (lens : List ℕ) (i j n : ℕ) (row : List ℕ) (at k : ℕ) (b : Built rows lens i j n row at k) (g : RowHolds rows lens j) where
   -- one more number of the second read is copied
-  pub built-turn : k < getD lens j 0 → getD lens i 0 + getD lens j 0 ≤ 64 + n →
+  pub built-turn : k < getD lens j 0 → getD lens i 0 + getD lens j 0 ≤ rowLength + n →
       Built rows lens i j n (set row at (getD (getD rows j []) k 0)) (at + 1) (k + 1)
   built-turn l m =
       record {
@@ -177,7 +178,7 @@ module _ (rows : List (List ℕ)) (lens : List ℕ) (count low : ℕ) (row : Lis
   unfolding rowsOf
   put-reads = ap (take count) (used-set rows lens low row size) ∙ take-set-lt count (used rows lens) low (take size row) l
 
-  put-fit : size ≤ 64 → (m : ℕ) → m < count → getD (set lens low size) m 0 ≤ 64
+  put-fit : size ≤ rowLength → (m : ℕ) → m < count → getD (set lens low size) m 0 ≤ rowLength
   put-fit s m h =
       elim (ℕ-discrete m low) [
         | yes e ↦ rw e (omega (arith, getD-set-same lens low size 0 (omega (arith, t .sized, t .counted))))
@@ -185,12 +186,12 @@ module _ (rows : List (List ℕ)) (lens : List ℕ) (count low : ℕ) (row : Lis
       ]
 
   -- and they are a table of reads
-  pub put-table : length row ≡ 64 → size ≤ 64 → ReadHolds (take size row) → TableHolds (set rows low row) (set lens low size) count
+  pub put-table : length row ≡ rowLength → size ≤ rowLength → ReadHolds (take size row) → TableHolds (set rows low row) (set lens low size) count
   put-table w s r =
       record {
         counted = t .counted;
         tall = length-set rows low row ∙ t .tall;
-        wide = all-set (λ (q : List ℕ). length q ≡ 64) rows low row (t .wide) w;
+        wide = all-set (λ (q : List ℕ). length q ≡ rowLength) rows low row (t .wide) w;
         sized = length-set lens low size ∙ t .sized;
         fit = put-fit s;
         reads = subst (All ReadHolds) (sym put-reads) (all-set ReadHolds (rowsOf rows lens count) low (take size row) (t .reads) r);

@@ -12,7 +12,7 @@ use Rattle.mathematics.proofs.Basics.{all-weaken, all-append, all-left, all-rig
 use Rattle.mathematics.proofs.Parts.{Rising}
 use Rattle.mathematics.proofs.Overlap.{overlap-meets}
 use Rattle.mathematics.proofs.Longest.{Meets, longest-meets}
-use Rattle.reads.specs.ReadTable.{rowAt, rowsOf, ReadHolds, TableHolds, joinOf}
+use Rattle.reads.specs.ReadTable.{rowAt, rowsOf, ReadHolds, TableHolds, joinOf, rowLength}
 use Rattle.reads.proofs.TableLaws.{climbs-rising, rising-climbs}
 use Rattle.reads.proofs.TableRows.{table-length, table-get, table-row}
 
@@ -21,9 +21,9 @@ rising-size [] low top l h a b = omega arith
 rising-size (v ∷ r) low top l h a b = omega (arith, rising-size r (suc v) top (b .0) (h .1) (h .0) (b .1), a .0)
 
 -- a read has at most as many numbers as there are vertices
-read-size : (r : List ℕ) → ReadHolds r → length r ≤ 64
+read-size : (r : List ℕ) → ReadHolds r → length r ≤ rowLength
 read-size r h =
-    omega (arith, rising-size r 0 64 (omega arith) (climbs-rising r (h .climbs)) (all-weaken (λ (v : ℕ). v < 64) (λ (v : ℕ). 0 ≤ v) r (λ v l. omega arith) (h .below)) (h .below))
+    omega (arith, rising-size r 0 rowLength (omega arith) (climbs-rising r (h .climbs)) (all-weaken (λ (v : ℕ). v < rowLength) (λ (v : ℕ). 0 ≤ v) r (λ v l. omega arith) (h .below)) (h .below))
 
 above-join : (v : ℕ) (x o y : List ℕ) → 1 ≤ length o → All (λ (w : ℕ). v < w) (x ++ o) → Rising (o ++ y) → All (λ (w : ℕ). v < w) (x ++ (o ++ y))
 above-join v x [] y l a h = absurd (omega arith)
@@ -41,7 +41,7 @@ holds-join x o y l g h =
     record {
       some = omega (arith, length-append x (o ++ y), length-append o y);
       climbs = rising-climbs (x ++ (o ++ y)) (rising-join x o y l (climbs-rising (x ++ o) (g .climbs)) (climbs-rising (o ++ y) (h .climbs)));
-      below = all-append (λ (v : ℕ). v < 64) x (o ++ y) (all-left (λ (v : ℕ). v < 64) x o (g .below)) (h .below);
+      below = all-append (λ (v : ℕ). v < rowLength) x (o ++ y) (all-left (λ (v : ℕ). v < rowLength) x o (g .below)) (h .below);
     }
 
 read-join : (a b : List ℕ) → ReadHolds a → ReadHolds b → 1 ≤ overlap a b → ReadHolds (a ++ drop (overlap a b) b)
@@ -61,7 +61,7 @@ pub record Joins (rows : List (List ℕ)) (lens : List ℕ) (count : ℕ) (m : M
   pub i-below : m .i < count
   pub j-below : m .j < count
   pub part : m .shared ≤ getD lens (m .j) 0
-  pub room : getD lens (m .i) 0 + getD lens (m .j) 0 ≤ 64 + m .shared
+  pub room : getD lens (m .i) 0 + getD lens (m .j) 0 ≤ rowLength + m .shared
   pub read : ReadHolds (joinOf rows lens (m .i) (m .j) (m .shared))
 
 module _ (rows : List (List ℕ)) (lens : List ℕ) (count : ℕ) (t : TableHolds rows lens count) (m : Meeting) where

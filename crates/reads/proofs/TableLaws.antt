@@ -12,9 +12,9 @@ use mathlib.Core.Logic.{inl, inr}
 use lib.Dec.{T, eqb}
 use lib.ListN.{length, getD, drop, length-append, length-drop, List·getD-append, drop-of-length-le}
 use lib.Seq.{getD-take, getD-append-add, drop-cons}
-use Rattle.mathematics.specs.Lists.{All, begins, holds}
-use Rattle.mathematics.proofs.Basics.{all-weaken, is-false}
-use Rattle.mathematics.proofs.Parts.{Rising, holds-within}
+use Rattle.mathematics.specs.Lists.{begins, holds}
+use Rattle.mathematics.proofs.Basics.{all-weaken, all-at, at-all, is-false}
+use Rattle.mathematics.proofs.Parts.{Rising, holds-within, holds-above}
 use Rattle.reads.specs.ReadTable.{rowAt, runs, Climbs, RowHolds, Place}
 
 and-false : (t : Bool) → t && false ≡ false
@@ -82,19 +82,6 @@ module _ (rows : List (List ℕ)) (lens : List ℕ) (i j k at : ℕ) (t : Bool) 
   unfolding runs
   run-end l = sym (e ∙ rw (drop-of-length-le (rowAt rows lens i) {i = k} (omega (arith, gi .long))))
 
--- what holds at every place holds of all, and back
-module _ {A : Type 0} (P : A → Type 0) (d : A) where
-  -- what holds at every place holds of all
-  pub all-at : (xs : List A) → ((k : ℕ) → k < length xs → P (getD xs k d)) → All P xs
-  all-at [] f = tt
-  all-at (x ∷ xs) f = (f 0 (omega arith), all-at xs (λ k l. f (suc k) (omega arith)))
-
-  -- what holds of all holds at every place
-  pub at-all : (xs : List A) → All P xs → (k : ℕ) → k < length xs → P (getD xs k d)
-  at-all [] h k l = absurd (omega arith)
-  at-all (x ∷ xs) h zero l = h .0
-  at-all (x ∷ xs) h (suc k) l = at-all xs (h .1) k (omega arith)
-
 -- the numbers of a list that climbs rise from any place to any later one
 pub climbs-at : (r : List ℕ) → Climbs r → (i j : ℕ) → i < j → j < length r → getD r i 0 < getD r j 0
 climbs-at r c i zero l m = absurd (omega arith)
@@ -137,12 +124,6 @@ begins-short (x ∷ a) (y ∷ b) l = ap (λ (t : Bool). eqb x y && t) (begins-sh
 holds-short : (b a : List ℕ) → length b < length a → holds b a ≡ false
 holds-short [] a l = begins-short a [] l
 holds-short (y ∷ b) a l = ap₂ _||_ (begins-short a (y ∷ b) l) (holds-short b a (omega arith))
-
--- a read whose first number is below all of b is no part of b
-holds-above : (v : ℕ) (a b : List ℕ) → All (λ (w : ℕ). v < w) b → holds b (v ∷ a) ≡ false
-holds-above v a [] h = refl
-holds-above v a (y ∷ b) h =
-    ap₂ _||_ (ap (λ (t : Bool). t && begins a b) (ne-eqb v y (λ e. omega (arith, e, h .0)))) (holds-above v a b (h .1))
 
 place-tail : (y v p : ℕ) (b : List ℕ) → Place (y ∷ b) v (suc p) → Place b v p
 place-tail y v p b g =

@@ -6,13 +6,13 @@ use borrow.Author.Tests.{lt-ltb, le-ltb}
 use mathlib.Core.Path.{_≡_, refl, sym, ap, subst, _∙_}
 use mathlib.Core.List.{List, [], _∷_}
 use mathlib.Core.Bool.{Bool, true, false, _&&_, _||_}
-use lib.ListN.{length, getD, take, drop, set, length-take, drop-of-length-le}
+use lib.ListN.{length, getD, take, drop, set, length-take, drop-of-length-le, replicate, length-replicate}
 use native.Mathlib.Decide.{decLt}
 use lib.Seq.{getD-take, drop-cons, take-take, getD-set-same, getD-set-other}
 use Rattle.mathematics.specs.Lists.{All, holds, someHolds}
 use Rattle.mathematics.specs.Prepare.{someLonger}
-use Rattle.reads.specs.ReadTable.{rowAt, used, rowsOf, ReadHolds, RowHolds, TableHolds, Leaves, heldFrom, longerAt, longerFrom, gone}
-use Rattle.reads.proofs.TableLaws.{at-all}
+use Rattle.mathematics.proofs.Basics.{at-all}
+use Rattle.reads.specs.ReadTable.{rowAt, used, rowsOf, ReadHolds, RowHolds, TableHolds, Leaves, heldFrom, longerAt, longerFrom, gone, tableRows, rowLength, TableSized}
 
 used-length : (rows : List (List ℕ)) (lens : List ℕ) → length (used rows lens) ≡ min (length rows) (length lens)
 used-length [] lens = omega arith
@@ -34,26 +34,26 @@ used-set (s ∷ rows) [] (suc i) r n = refl
 used-set (s ∷ rows) (m ∷ lens) zero r n = refl
 used-set (s ∷ rows) (m ∷ lens) (suc i) r n = ap {B = List (List ℕ)} (λ q. take m s ∷ q) (used-set rows lens i r n)
 
-module _ (rows : List (List ℕ)) (lens : List ℕ) (tall : length rows ≡ 16) (sized : length lens ≡ 16) where
-  -- the table has 16 rows
-  pub used-rows : length (used rows lens) ≡ 16
+module _ (rows : List (List ℕ)) (lens : List ℕ) (tall : length rows ≡ tableRows) (sized : length lens ≡ tableRows) where
+  -- the table has all its rows
+  pub used-rows : length (used rows lens) ≡ tableRows
   used-rows = omega (arith, used-length rows lens)
 
   -- the used part of a row is its read
-  pub used-row : (i : ℕ) → i < 16 → getD (used rows lens) i [] ≡ rowAt rows lens i
+  pub used-row : (i : ℕ) → i < tableRows → getD (used rows lens) i [] ≡ rowAt rows lens i
   unfolding rowAt
   used-row i l = used-get rows lens i (omega arith) (omega arith)
 
-  rows-length : (count : ℕ) → count ≤ 16 → length (rowsOf rows lens count) ≡ count
+  rows-length : (count : ℕ) → count ≤ tableRows → length (rowsOf rows lens count) ≡ count
   unfolding rowsOf
   rows-length count l = omega (arith, length-take count (used rows lens), used-rows)
 
-  rows-get : (count i : ℕ) → count ≤ 16 → i < count → getD (rowsOf rows lens count) i [] ≡ rowAt rows lens i
+  rows-get : (count i : ℕ) → count ≤ tableRows → i < count → getD (rowsOf rows lens count) i [] ≡ rowAt rows lens i
   unfolding rowsOf
   rows-get count i l m = getD-take count (used rows lens) i [] m ∙ used-row i (omega arith)
 
   -- the reads from the j-th on: the read in row j, and those behind it
-  rows-from : (count j : ℕ) → count ≤ 16 → j < count → drop j (rowsOf rows lens count) ≡ rowAt rows lens j ∷ drop (j + 1) (rowsOf rows lens count)
+  rows-from : (count j : ℕ) → count ≤ tableRows → j < count → drop j (rowsOf rows lens count) ≡ rowAt rows lens j ∷ drop (j + 1) (rowsOf rows lens count)
   rows-from count j l m =
       rw (add-one j) (drop-cons (rowsOf rows lens count) j [] (omega (arith, rows-length count l)) ∙ ap (λ (r : List ℕ). r ∷ drop (suc j) (rowsOf rows lens count)) (rows-get count j l m))
 
@@ -70,8 +70,8 @@ module _ (rows : List (List ℕ)) (lens : List ℕ) (count : ℕ) (t : TableHold
   pub table-from : (j : ℕ) → j < count → drop j (rowsOf rows lens count) ≡ rowAt rows lens j ∷ drop (j + 1) (rowsOf rows lens count)
   table-from j l = rows-from rows lens (t .tall) (t .sized) count j (t .counted) l
 
-  row-wide : (i : ℕ) → i < count → length (getD rows i []) ≡ 64
-  row-wide i l = at-all (λ (r : List ℕ). length r ≡ 64) [] rows (t .wide) i (omega (arith, t .tall, t .counted))
+  row-wide : (i : ℕ) → i < count → length (getD rows i []) ≡ rowLength
+  row-wide i l = at-all (λ (r : List ℕ). length r ≡ rowLength) [] rows (t .wide) i (omega (arith, t .tall, t .counted))
 
   row-long : (i : ℕ) → i < count → length (rowAt rows lens i) ≡ getD lens i 0
   unfolding rowAt
@@ -178,3 +178,16 @@ fill-turn f l i v h u e k m =
 pub leaves-same : {rows : List (List ℕ)} {lens : List ℕ} {count : ℕ} {rs rs′ : List (List ℕ)} → Leaves rows lens count rs → rs ≡ rs′ →
     Leaves rows lens count rs′
 leaves-same h e = record { table = h .table; reads = h .reads ∙ e }
+
+-- a table as it is made, all 0, has its size
+all-replicate : {A : Type 0} (P : A → Type 0) (n : ℕ) (x : A) → P x → All P (replicate n x)
+all-replicate P zero x h = tt
+all-replicate P (suc n) x h = (h, all-replicate P n x h)
+
+pub blank-table : TableSized (replicate tableRows (replicate rowLength 0)) (replicate tableRows 0)
+blank-table =
+    record {
+      tall = length-replicate {A = List ℕ} tableRows (replicate rowLength 0);
+      wide = all-replicate (λ (r : List ℕ). length r ≡ rowLength) tableRows (replicate rowLength 0) (length-replicate {A = ℕ} rowLength 0);
+      sized = length-replicate {A = ℕ} tableRows 0;
+    }

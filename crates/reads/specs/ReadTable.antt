@@ -7,9 +7,9 @@ use lib.Dec.{ltb, eqb}
 use lib.ListN.{length, getD, take, drop}
 use Rattle.mathematics.specs.Lists.{All, begins, holds, someHolds}
 use Rattle.mathematics.specs.Prepare.{someLonger, overlap, Meeting, longer, longestWith}
-use Rattle.reads.specs.declared.Meeting.{Meeting as Found}
+use Rattle.reads.specs.declared.Meeting.{Meeting as MeetingStruct}
 
--- the size of the table: 16 rows of 64 numbers, as the code's arrays have it
+-- the size of the table: so many rows of so many numbers, as the code's arrays have it; no number in it is as high as a row is long
 abbrev pub tableRows : ℕ
 tableRows = 16
 
@@ -38,7 +38,7 @@ rowsOf rows lens count = take count (used rows lens)
 abbrev pub Climbs : List ℕ → Type 0
 Climbs r = (k : ℕ) → k + 1 < length r → getD r k 0 < getD r (k + 1) 0
 
--- a read of the table: not empty, its numbers rise and are below 64
+-- a read of the table: not empty, its numbers rise and are below the length of a row
 pub record ReadHolds (r : List ℕ) : Type 0 where
   pub some : 1 ≤ length r
   pub climbs : Climbs r
@@ -52,7 +52,13 @@ pub record RowHolds (rows : List (List ℕ)) (lens : List ℕ) (i : ℕ) : Type 
   pub long : length (rowAt rows lens i) ≡ getD lens i 0
   pub read : ReadHolds (rowAt rows lens i)
 
--- the table has 16 rows of 64 and 16 lengths, and count of its rows hold reads
+-- the table has its size, whatever it holds
+pub record TableSized (rows : List (List ℕ)) (lens : List ℕ) : Type 0 where
+  pub tall : length rows ≡ tableRows
+  pub wide : All (λ r. length r ≡ rowLength) rows
+  pub sized : length lens ≡ tableRows
+
+-- the table has its size, and count of its rows hold reads
 pub record TableHolds (rows : List (List ℕ)) (lens : List ℕ) (count : ℕ) : Type 0 where
   pub counted : count ≤ tableRows
   pub tall : length rows ≡ tableRows
@@ -87,7 +93,7 @@ abbrev pub Marks : List (List ℕ) → List ℕ → ℕ → List Bool → Type 0
 Marks rows lens count marks = (k : ℕ) → k < count → getD marks k false ≡ gone rows lens count k
 
 -- the struct's value as the mathematics' pair of reads
-abbrev pub meeting : Found → Meeting
+abbrev pub meeting : MeetingStruct → Meeting
 meeting p = record { shared = p .shared; i = p .i; j = p .j }
 
 -- the better of best and the pair of the rows i and j

@@ -5,7 +5,12 @@ ghost use Prim.Native.Nat.{_+_, _-_, _<_, _≤_};
 ghost use lib.ListN.{length, getD, take, set};
 ghost use Rattle.mathematics.specs.Lists.{holds};
 ghost use Rattle.mathematics.specs.Prepare.{dropParts, overlap as overlapOf, longest as longestOf, without, joinAt, prepare};
-ghost use Rattle.reads.specs.ReadTable.{rowAt, rowsOf, runs, Leaves, heldFrom, longerAt, longerFrom, gone, Marks, meeting, nextAt, withFrom, joinOf, ReadHolds, RowHolds, TableHolds, Place};
+ghost use Rattle.reads.specs.ReadTable.{rowAt, rowsOf, runs, Leaves, heldFrom, longerAt, longerFrom, gone, Marks, meeting, nextAt, withFrom, joinOf, ReadHolds, RowHolds, TableHolds, Place, rowLength};
+
+// The size of the table: so many rows, a read each, and so many vertices at the most in a row, which a joined read can have. specs/ReadTable.antt has the same numbers.
+pub const ROWS: usize = 16;
+
+pub const ROW: usize = 64;
 
 // A pair of reads, by their rows, and how many vertices they share: the length of their overlap.
 struct Meeting {
@@ -15,7 +20,7 @@ struct Meeting {
 }
 
 // Where v stands in the read of row j, or would stand.
-fn place(rows: &[[u8; 64]; 16], lens: &[usize; 16], j: usize, v: u8) -> usize
+fn place(rows: &[[u8; ROW]; ROWS], lens: &[usize; ROWS], j: usize, v: u8) -> usize
     requires { ⌜ RowHolds (now rows) (now lens) j ⌝ }
     ensures { λ r. ⌜ Place (rowAt (now (rows .entry)) (now (lens .entry)) j) v r ⌝ }
 {
@@ -32,8 +37,8 @@ fn place(rows: &[[u8; 64]; 16], lens: &[usize; 16], j: usize, v: u8) -> usize
 
 // Whether the end of the read of row i from p on begins the read of row j from q on.
 fn same_run(
-    rows: &[[u8; 64]; 16],
-    lens: &[usize; 16],
+    rows: &[[u8; ROW]; ROWS],
+    lens: &[usize; ROWS],
     i: usize,
     p: usize,
     j: usize,
@@ -58,7 +63,7 @@ fn same_run(
 }
 
 // Whether the read of row i is a consecutive part of the read of row j.
-fn is_part(rows: &[[u8; 64]; 16], lens: &[usize; 16], i: usize, j: usize) -> bool
+fn is_part(rows: &[[u8; ROW]; ROWS], lens: &[usize; ROWS], i: usize, j: usize) -> bool
     requires read_i { ⌜ RowHolds (now rows) (now lens) i ⌝ }
     requires read_j { ⌜ RowHolds (now rows) (now lens) j ⌝ }
     ensures { λ r. ⌜ r ≡ holds (rowAt (now (rows .entry)) (now (lens .entry)) j) (rowAt (now (rows .entry)) (now (lens .entry)) i) ⌝ }
@@ -79,7 +84,7 @@ fn is_part(rows: &[[u8; 64]; 16], lens: &[usize; 16], i: usize, j: usize) -> boo
 }
 
 // The length of the longest proper end of the read of row i that properly begins the read of row j, or 0.
-fn overlap(rows: &[[u8; 64]; 16], lens: &[usize; 16], i: usize, j: usize) -> usize
+fn overlap(rows: &[[u8; ROW]; ROWS], lens: &[usize; ROWS], i: usize, j: usize) -> usize
     requires read_i { ⌜ RowHolds (now rows) (now lens) i ⌝ }
     requires read_j { ⌜ RowHolds (now rows) (now lens) j ⌝ }
     ensures { λ r. ⌜ r ≡ overlapOf (rowAt (now (rows .entry)) (now (lens .entry)) i) (rowAt (now (rows .entry)) (now (lens .entry)) j) ⌝ }
@@ -109,7 +114,7 @@ fn overlap(rows: &[[u8; 64]; 16], lens: &[usize; 16], i: usize, j: usize) -> usi
 }
 
 // Whether the read of row i is a part of a read of a lower row.
-fn in_earlier(rows: &[[u8; 64]; 16], lens: &[usize; 16], i: usize) -> bool
+fn in_earlier(rows: &[[u8; ROW]; ROWS], lens: &[usize; ROWS], i: usize) -> bool
     requires { ⌜ TableHolds (now rows) (now lens) (i + 1) ⌝ }
     ensures { λ r. ⌜ r ≡ heldFrom (now (rows .entry)) (now (lens .entry)) i 0 ⌝ }
 {
@@ -124,7 +129,7 @@ fn in_earlier(rows: &[[u8; 64]; 16], lens: &[usize; 16], i: usize) -> bool
 }
 
 // Whether the read of row i is shorter than the read of row j and a part of it.
-fn is_longer(rows: &[[u8; 64]; 16], lens: &[usize; 16], i: usize, j: usize) -> bool
+fn is_longer(rows: &[[u8; ROW]; ROWS], lens: &[usize; ROWS], i: usize, j: usize) -> bool
     requires read_i { ⌜ RowHolds (now rows) (now lens) i ⌝ }
     requires read_j { ⌜ RowHolds (now rows) (now lens) j ⌝ }
     ensures { λ r. ⌜ r ≡ longerAt (now (rows .entry)) (now (lens .entry)) i j ⌝ }
@@ -136,7 +141,7 @@ fn is_longer(rows: &[[u8; 64]; 16], lens: &[usize; 16], i: usize, j: usize) -> b
 }
 
 // Whether the read of row i is a part of a longer read of a higher row.
-fn in_later(rows: &[[u8; 64]; 16], lens: &[usize; 16], count: usize, i: usize) -> bool
+fn in_later(rows: &[[u8; ROW]; ROWS], lens: &[usize; ROWS], count: usize, i: usize) -> bool
     requires table { ⌜ TableHolds (now rows) (now lens) count ⌝ }
     requires inside { ⌜ i < count ⌝ }
     ensures { λ r. ⌜ r ≡ longerFrom (now (rows .entry)) (now (lens .entry)) count i (i + 1) ⌝ }
@@ -152,11 +157,11 @@ fn in_later(rows: &[[u8; 64]; 16], lens: &[usize; 16], count: usize, i: usize) -
 }
 
 // The marks of the reads that are dropped.
-fn marks(rows: &[[u8; 64]; 16], lens: &[usize; 16], count: usize) -> [bool; 16]
+fn marks(rows: &[[u8; ROW]; ROWS], lens: &[usize; ROWS], count: usize) -> [bool; ROWS]
     requires { ⌜ TableHolds (now rows) (now lens) count ⌝ }
     ensures { λ r. ⌜ Marks (now (rows .entry)) (now (lens .entry)) count r ⌝ }
 {
-    let mut marks = [false; 16];
+    let mut marks = [false; ROWS];
     let mut i = 0;
     while i < count {
         marks[i] = is_gone(rows, lens, count, i);
@@ -166,7 +171,7 @@ fn marks(rows: &[[u8; 64]; 16], lens: &[usize; 16], count: usize) -> [bool; 16]
 }
 
 // Whether the read of row i is dropped.
-fn is_gone(rows: &[[u8; 64]; 16], lens: &[usize; 16], count: usize, i: usize) -> bool
+fn is_gone(rows: &[[u8; ROW]; ROWS], lens: &[usize; ROWS], count: usize, i: usize) -> bool
     requires table { ⌜ TableHolds (now rows) (now lens) count ⌝ }
     requires inside { ⌜ i < count ⌝ }
     ensures { λ r. ⌜ r ≡ gone (now (rows .entry)) (now (lens .entry)) count i ⌝ }
@@ -179,10 +184,10 @@ fn is_gone(rows: &[[u8; 64]; 16], lens: &[usize; 16], count: usize, i: usize) ->
 
 // Moves the reads without a mark up to the front; gives how many they are.
 fn move_up(
-    rows: &mut [[u8; 64]; 16],
-    lens: &mut [usize; 16],
+    rows: &mut [[u8; ROW]; ROWS],
+    lens: &mut [usize; ROWS],
     count: usize,
-    marks: &[bool; 16],
+    marks: &[bool; ROWS],
 ) -> usize
     requires table { ⌜ TableHolds (now rows) (now lens) count ⌝ }
     requires marked { ⌜ Marks (now rows) (now lens) count (now marks) ⌝ }
@@ -205,7 +210,7 @@ fn move_up(
 }
 
 // Drops each read that is a consecutive part of another; of equal reads the lowest numbered stays. Gives how many reads are left.
-fn drop_parts(rows: &mut [[u8; 64]; 16], lens: &mut [usize; 16], count: usize) -> usize
+fn drop_parts(rows: &mut [[u8; ROW]; ROWS], lens: &mut [usize; ROWS], count: usize) -> usize
     requires { ⌜ TableHolds (now rows) (now lens) count ⌝ }
     ensures { λ r. ⌜ Leaves (now (rows .exit)) (now (lens .exit)) r (dropParts [] (rowsOf (now (rows .entry)) (now (lens .entry)) count)) ⌝ }
 {
@@ -215,8 +220,8 @@ fn drop_parts(rows: &mut [[u8; 64]; 16], lens: &mut [usize; 16], count: usize) -
 
 // The longer of best and the overlap of the reads of rows i and j; best where they tie, or where i is j.
 fn longer_of(
-    rows: &[[u8; 64]; 16],
-    lens: &[usize; 16],
+    rows: &[[u8; ROW]; ROWS],
+    lens: &[usize; ROWS],
     i: usize,
     j: usize,
     best: Meeting,
@@ -245,8 +250,8 @@ fn longer_of(
 
 // The longest overlap with the read of row i as the first of the pair, or best.
 fn longest_with(
-    rows: &[[u8; 64]; 16],
-    lens: &[usize; 16],
+    rows: &[[u8; ROW]; ROWS],
+    lens: &[usize; ROWS],
     count: usize,
     i: usize,
     best: Meeting,
@@ -265,7 +270,7 @@ fn longest_with(
 }
 
 // The pair with the longest overlap; of several the lowest i, then the lowest j. None is shared where no two reads overlap.
-fn longest(rows: &[[u8; 64]; 16], lens: &[usize; 16], count: usize) -> Meeting
+fn longest(rows: &[[u8; ROW]; ROWS], lens: &[usize; ROWS], count: usize) -> Meeting
     requires { ⌜ TableHolds (now rows) (now lens) count ⌝ }
     ensures { λ r. ⌜ meeting r ≡ longestOf (rowsOf (now (rows .entry)) (now (lens .entry)) count) ⌝ }
 {
@@ -283,11 +288,11 @@ fn longest(rows: &[[u8; 64]; 16], lens: &[usize; 16], count: usize) -> Meeting
 }
 
 // The read of row i, and behind it the read of row j without its first n numbers.
-fn joined(rows: &[[u8; 64]; 16], lens: &[usize; 16], i: usize, j: usize, n: usize) -> [u8; 64]
+fn joined(rows: &[[u8; ROW]; ROWS], lens: &[usize; ROWS], i: usize, j: usize, n: usize) -> [u8; ROW]
     requires read_i { ⌜ RowHolds (now rows) (now lens) i ⌝ }
     requires read_j { ⌜ RowHolds (now rows) (now lens) j ⌝ }
-    requires room { ⌜ (n ≤ getD (now lens) j 0) × (getD (now lens) i 0 + getD (now lens) j 0 ≤ 64 + n) ⌝ }
-    ensures wide { λ r. ⌜ length r ≡ 64 ⌝ }
+    requires room { ⌜ (n ≤ getD (now lens) j 0) × (getD (now lens) i 0 + getD (now lens) j 0 ≤ rowLength + n) ⌝ }
+    ensures wide { λ r. ⌜ length r ≡ rowLength ⌝ }
     ensures read { λ r. ⌜ take (getD (now (lens .entry)) i 0 + getD (now (lens .entry)) j 0 - n) r ≡ joinOf (now (rows .entry)) (now (lens .entry)) i j n ⌝ }
 {
     let m = lens[j];
@@ -303,7 +308,12 @@ fn joined(rows: &[[u8; 64]; 16], lens: &[usize; 16], i: usize, j: usize, n: usiz
 }
 
 // Moves the rows behind row gap up by one.
-fn close_gap(rows: &mut [[u8; 64]; 16], lens: &mut [usize; 16], count: usize, gap: usize) -> usize
+fn close_gap(
+    rows: &mut [[u8; ROW]; ROWS],
+    lens: &mut [usize; ROWS],
+    count: usize,
+    gap: usize,
+) -> usize
     requires table { ⌜ TableHolds (now rows) (now lens) count ⌝ }
     requires inside { ⌜ gap < count ⌝ }
     ensures left { λ r. ⌜ Leaves (now (rows .exit)) (now (lens .exit)) r (without gap (rowsOf (now (rows .entry)) (now (lens .entry)) count)) ⌝ }
@@ -322,17 +332,17 @@ fn close_gap(rows: &mut [[u8; 64]; 16], lens: &mut [usize; 16], count: usize, ga
 
 // Puts a read of the given length into row low, and takes row high out.
 fn put_row(
-    rows: &mut [[u8; 64]; 16],
-    lens: &mut [usize; 16],
+    rows: &mut [[u8; ROW]; ROWS],
+    lens: &mut [usize; ROWS],
     count: usize,
     low: usize,
     high: usize,
-    row: [u8; 64],
+    row: [u8; ROW],
     size: usize,
 ) -> usize
     requires table { ⌜ TableHolds (now rows) (now lens) count ⌝ }
     requires inside { ⌜ (low < count) × (high < count) ⌝ }
-    requires read { ⌜ (length row ≡ 64) × (size ≤ 64) × ReadHolds (take size row) ⌝ }
+    requires read { ⌜ (length row ≡ rowLength) × (size ≤ rowLength) × ReadHolds (take size row) ⌝ }
     ensures left { λ r. ⌜ Leaves (now (rows .exit)) (now (lens .exit)) r (without high (set (rowsOf (now (rows .entry)) (now (lens .entry)) count) low (take size row))) ⌝ }
     ensures fewer { λ r. ⌜ r + 1 ≡ count ⌝ }
 {
@@ -342,7 +352,12 @@ fn put_row(
 }
 
 // Replaces the pair with the longest overlap by the joined read, in the lower of the two rows.
-fn join_at(rows: &mut [[u8; 64]; 16], lens: &mut [usize; 16], count: usize, m: Meeting) -> usize
+fn join_at(
+    rows: &mut [[u8; ROW]; ROWS],
+    lens: &mut [usize; ROWS],
+    count: usize,
+    m: Meeting,
+) -> usize
     requires table { ⌜ TableHolds (now rows) (now lens) count ⌝ }
     requires longest { ⌜ meeting m ≡ longestOf (rowsOf (now rows) (now lens) count) ⌝ }
     requires some { ⌜ 1 ≤ m .shared ⌝ }
@@ -362,7 +377,7 @@ fn join_at(rows: &mut [[u8; 64]; 16], lens: &mut [usize; 16], count: usize, m: M
 }
 
 // Prepares the reads: drops what is a part of another, then joins the longest overlap while there is one. Gives how many reads remain.
-pub fn prepare_reads(rows: &mut [[u8; 64]; 16], lens: &mut [usize; 16], count: usize) -> usize
+pub fn prepare_reads(rows: &mut [[u8; ROW]; ROWS], lens: &mut [usize; ROWS], count: usize) -> usize
     requires { ⌜ TableHolds (now rows) (now lens) count ⌝ }
     ensures { λ r. ⌜ Leaves (now (rows .exit)) (now (lens .exit)) r (prepare (rowsOf (now (rows .entry)) (now (lens .entry)) count)) ⌝ }
 {

@@ -15,15 +15,16 @@ use Rattle.forms.specs.Bytes.{byte, be32}
 use Rattle.forms.specs.GraphForm.{vertexCount, arcCount, openingPrice, arcAt, arcTail, arcHead, arcCost}
 use Rattle.forms.specs.GraphOf.{graphOf}
 use Rattle.forms.specs.GraphReads.{Reads}
-use Rattle.reads.specs.ReadTable.{rowAt, Leaves}
+use Rattle.reads.specs.ReadTable.{rowAt, Leaves, rowLength, tableRows}
 use Rattle.reads.proofs.TableLaws.{row-get, last-get}
 use Rattle.reads.proofs.TableRows.{table-get, table-row}
-use Rattle.network.specs.Network.{at}
+use Rattle.network.specs.Network.{nth, mostEdges}
 use Rattle.paths.specs.Slots.{preparedOf, plainSlots, acrossSlot, openingSlot, closingSlot, readingSlot, linkAt, inUse, edgeFrom, edgeTo, edgeCost}
-use Rattle.reach.specs.Reached.{Counted, Tells}
+use Rattle.reach.specs.Reached.{FormSizes, Tells}
 use Rattle.wiring.specs.Lay.{Stored, EdgesLaid}
+use Rattle.forms.specs.Limits.{maxVertices}
 use Rattle.reach.proofs.ReachLaws.{Filled, fill-more, start-is, end-is}
-use Rattle.wiring.proofs.SlotLaws.{at-inside, at-across, at-opening, at-closing, at-reading}
+use Rattle.paths.proofs.SlotKinds.{at-inside, at-across, at-opening, at-closing, at-reading}
 
 -- the edge at place e is used or not, goes from a to b and costs k
 pub record EdgeIs (s : List ℕ) (e : ℕ) (used : Bool) (a b k : ℕ) : Type 0 where
@@ -50,13 +51,13 @@ module _ {e : ℕ} {used : Bool} {a b k : ℕ} {from to cost : List ℕ} where
       }
 
 -- one store more
-filled-set : (xs xs' : List ℕ) (e x : ℕ) (f : ℕ → ℕ) → xs' ≡ set xs e x → length xs ≡ 464 → e < 464 → x ≡ f e → ((k : ℕ) → k < e → at xs k ≡ f k) →
-    Filled 464 0 f xs' (e + 1)
+filled-set : (xs xs' : List ℕ) (e x : ℕ) (f : ℕ → ℕ) → xs' ≡ set xs e x → length xs ≡ mostEdges → e < mostEdges → x ≡ f e → ((k : ℕ) → k < e → nth xs k ≡ f k) →
+    Filled mostEdges 0 f xs' (e + 1)
 filled-set xs xs' e x f is long room same each =
-    subst (λ ys. Filled 464 0 f ys (e + 1)) (sym is) (fill-more {xs = xs} (record { long = long; each = each }) room same)
+    subst (λ ys. Filled mostEdges 0 f ys (e + 1)) (sym is) (fill-more {xs = xs} (record { long = long; each = each }) room same)
 
 module _ {s : List ℕ} {e : ℕ} {used : Bool} {a b k : ℕ} {from to cost from' to' cost' : List ℕ} where
-  lay-more : EdgesLaid s e from to cost → e < 464 → Stored e used a b k from to cost from' to' cost' → EdgeIs s e used a b k →
+  lay-more : EdgesLaid s e from to cost → e < mostEdges → Stored e used a b k from to cost from' to' cost' → EdgeIs s e used a b k →
       EdgesLaid s (e + 1) from' to' cost'
   lay-more laid room st is =
       let f = filled-set from from' e (cond used a 0) (edgeFrom s) (st .from-is) (laid .from-long) room (is .from-is) (laid .from-is) in
@@ -144,17 +145,17 @@ module _ (s : List ℕ) where
 
 -- ---- a turn of each loop
 
-pub few-plain : {s : List ℕ} → Reads s → plainSlots s ≤ 448
+pub few-plain : {s : List ℕ} → Reads s → plainSlots s + tableRows ≤ mostEdges
 few-plain r = omega (arith, r .arcs .header .few-vertices, r .arcs .header .few-arcs)
 
 pub edges-at : {s from to cost : List ℕ} {k j : ℕ} → EdgesLaid s k from to cost → k ≡ j → EdgesLaid s j from to cost
 edges-at {s} {from} {to} {cost} l e = subst (λ i. EdgesLaid s i from to cost) e l
 
 -- the header's numbers of vertices and arcs, and the bounds on them
-pub counted : {s : List ℕ} {n m : ℕ} → Reads s → n ≡ vertexCount s → m ≡ arcCount s → Counted s n m
+pub counted : {s : List ℕ} {n m : ℕ} → Reads s → n ≡ vertexCount s → m ≡ arcCount s → FormSizes s n m
 counted r n m = record { reads = r; vertices = n; arcs = m }
 
-module _ {s : List ℕ} {n m : ℕ} (c : Counted s n m) where
+module _ {s : List ℕ} {n m : ℕ} (c : FormSizes s n m) where
   -- records lie within the form
   pub vertex-whole : (v : ℕ) → v < n → 13 + 5 * v + 5 ≤ length s
   vertex-whole v h = omega (arith, c .reads .vertices v (omega (arith, c .vertices)) .whole)
@@ -164,7 +165,7 @@ module _ {s : List ℕ} {n m : ℕ} (c : Counted s n m) where
     arc-whole = omega (arith, c .reads .arcs .each (n + m - (e + 1)) (omega (arith, c .arcs)) .whole, c .vertices)
 
     -- an arc's ends are vertices
-    pub arc-low : {u v : ℕ} → u ≡ byte s (13 + 5 * n + 10 * (n + m - (e + 1))) → v ≡ byte s (13 + 5 * n + 10 * (n + m - (e + 1)) + 1) → (u < 64) × (v < 64)
+    pub arc-low : {u v : ℕ} → u ≡ byte s (13 + 5 * n + 10 * (n + m - (e + 1))) → v ≡ byte s (13 + 5 * n + 10 * (n + m - (e + 1)) + 1) → (u < maxVertices) × (v < maxVertices)
     arc-low p q =
         let a : ℕ = n + m - (e + 1) in
         let x = c .reads .arcs .each a (omega (arith, c .arcs)) in
@@ -173,10 +174,10 @@ module _ {s : List ℕ} {n m : ℕ} (c : Counted s n m) where
 
 -- a row that holds a read holds a number
 pub read-some : {rows : List (List ℕ)} {lens : List ℕ} {count i : ℕ} {rs : List (List ℕ)} → Leaves rows lens count rs → i < count →
-    (1 ≤ getD lens i 0) × (getD lens i 0 ≤ 64)
+    (1 ≤ getD lens i 0) × (getD lens i 0 ≤ rowLength)
 read-some {rows} {lens} {count} {i} l h = let row = table-row rows lens count (l .table) i h in omega (arith, row .long, row .read .some, row .fit)
 
-module _ {s : List ℕ} {n m : ℕ} (c : Counted s n m) {e : ℕ} {from to cost from' to' cost' : List ℕ} (laid : EdgesLaid s e from to cost) where
+module _ {s : List ℕ} {n m : ℕ} (c : FormSizes s n m) {e : ℕ} {from to cost from' to' cost' : List ℕ} (laid : EdgesLaid s e from to cost) where
   pub lay-vertex : {kept : List Bool} → Tells s (useful (graphOf s)) kept → e < n →
       Stored e (getD kept e false) (2 * e + 1) (2 * e + 2) 0 from to cost from' to' cost' → EdgesLaid s (e + 1) from' to' cost'
   lay-vertex t l st =

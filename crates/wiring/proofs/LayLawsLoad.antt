@@ -13,17 +13,20 @@ use Rattle.forms.specs.Bytes.{be32}
 use Rattle.forms.specs.GraphForm.{vertexCount, arcCount, arcAt}
 use Rattle.forms.specs.GraphOf.{graphOf}
 use Rattle.paths.specs.Slots.{plainSlots, acrossSlot, firstLoad, liveNode}
-use Rattle.reach.specs.Reached.{Counted, Tells}
+use Rattle.reach.specs.Reached.{FormSizes, Tells}
 use Rattle.wiring.specs.Lay.{VerticesCounted, ArcsCounted, LoadsLaid, LiveLaid}
+use Rattle.network.specs.Network.{mostNodes, mostEdges}
+use Rattle.reads.specs.ReadTable.{tableRows}
+use Rattle.forms.specs.Limits.{maxVertices}
 use Rattle.reach.proofs.ReachLaws.{Filled, fill-none, fill-more}
 use Rattle.wiring.proofs.SlotLaws.{first-inside, first-across}
 use Rattle.wiring.proofs.LayLaws.{few-plain}
 
 -- ---- loads
 
-load-more : {s load : List ℕ} {e x : ℕ} → LoadsLaid s e load → e < 464 → x ≡ firstLoad s e → LoadsLaid s (e + 1) (set load e x)
+load-more : {s load : List ℕ} {e x : ℕ} → LoadsLaid s e load → e < mostEdges → x ≡ firstLoad s e → LoadsLaid s (e + 1) (set load e x)
 load-more {s} {load} l room is =
-    let f : Filled 464 0 (firstLoad s) (set load _ _) (_ + 1) = fill-more {xs = load} (record { long = l .long; each = l .is }) room is in
+    let f : Filled mostEdges 0 (firstLoad s) (set load _ _) (_ + 1) = fill-more {xs = load} (record { long = l .long; each = l .is }) room is in
     record { long = f .long; is = f .each }
 
 -- behind the arcs lies nothing, and one unit on each read
@@ -34,7 +37,7 @@ first-behind s e l = rw (le-ltb e (vertexCount s) (omega arith), le-ltb e (verte
 pub loads-at : {s load : List ℕ} {k j : ℕ} → LoadsLaid s k load → k ≡ j → LoadsLaid s j load
 loads-at {s} {load} l e = subst (λ i. LoadsLaid s i load) e l
 
-module _ {s : List ℕ} {n m : ℕ} (c : Counted s n m) {load : List ℕ} {e : ℕ} (l : LoadsLaid s e load) {x : ℕ} where
+module _ {s : List ℕ} {n m : ℕ} (c : FormSizes s n m) {load : List ℕ} {e : ℕ} (l : LoadsLaid s e load) {x : ℕ} where
   pub load-vertex : {passed : List ℕ} → VerticesCounted s passed → e < n → {demand : ℕ} → demand ≡ be32 s (13 + 5 * e + 1) → x ≡ demand - getD passed e 0 →
       LoadsLaid s (e + 1) (set load e x)
   load-vertex p low d is =
@@ -51,7 +54,7 @@ module _ {s : List ℕ} {n m : ℕ} (c : Counted s n m) {load : List ℕ} {e : �
       load-more l (omega (arith, few-plain (c .reads), c .vertices, c .arcs))
       (is ∙ ap₂ (λ (a b : ℕ). a - b) (d ∙ ap (λ i. be32 s (i + 6)) o) (p .each a h) ∙ sym (ap (firstLoad s) q ∙ first-across s a h))
 
-  pub load-end : {count : ℕ} → count ≤ 16 → n + m ≤ e → e < 3 * n + m + count → x ≡ cond (ltb e (3 * n + m)) 0 1 → LoadsLaid s (e + 1) (set load e x)
+  pub load-end : {count : ℕ} → count ≤ tableRows → n + m ≤ e → e < 3 * n + m + count → x ≡ cond (ltb e (3 * n + m)) 0 1 → LoadsLaid s (e + 1) (set load e x)
   load-end few low high is =
       load-more l (omega (arith, few-plain (c .reads), c .vertices, c .arcs)) (is ∙ ap₂ (λ a b. cond (ltb e (3 * a + b)) 0 1) (c .vertices) (c .arcs) ∙ sym (first-behind s e (omega (arith, c .vertices, c .arcs))))
 
@@ -73,18 +76,18 @@ pub live-root : (s : List ℕ) → liveNode s 0 ≡ true
 unfolding liveNode
 live-root s = refl
 
-as-live : {s : List ℕ} {k : ℕ} {live : List Bool} → Filled 129 false (liveNode s) live k → LiveLaid s k live
+as-live : {s : List ℕ} {k : ℕ} {live : List Bool} → Filled mostNodes false (liveNode s) live k → LiveLaid s k live
 as-live f = record { long = f .long; is = f .each }
 
-pub live-none : {s : List ℕ} (live : List Bool) → length live ≡ 129 → LiveLaid s 1 (set live 0 true)
+pub live-none : {s : List ℕ} (live : List Bool) → length live ≡ mostNodes → LiveLaid s 1 (set live 0 true)
 live-none {s} live long = as-live (fill-more {xs = live} {i = 0} (fill-none long) (omega arith) (sym (live-root s)))
 
-pub live-more : {s : List ℕ} {kept : List Bool} → Tells s (useful (graphOf s)) kept → {v : ℕ} {live : List Bool} → LiveLaid s (2 * v + 1) live → v < vertexCount s → v < 64 →
+pub live-more : {s : List ℕ} {kept : List Bool} → Tells s (useful (graphOf s)) kept → {v : ℕ} {live : List Bool} → LiveLaid s (2 * v + 1) live → v < vertexCount s → v < maxVertices →
     LiveLaid s (2 * (v + 1) + 1) (set (set live (2 * v + 1) (getD kept v false)) (2 * v + 2) (getD kept v false))
 live-more {s} {kept} t {v} {live} l h low =
     let x = getD kept v false in
     let one = fill-more {xs = live} {x = x} (record { long = l .long; each = l .is }) (omega arith) (t .says v h ∙ sym (live-in s v)) in
     let q : 2 * v + 1 + 1 ≡ 2 * v + 2 = omega arith in
-    let two = fill-more {xs = set live (2 * v + 1) x} {x = x} (subst (Filled 129 false (liveNode s) (set live (2 * v + 1) x)) q one) (omega arith) (t .says v h ∙ sym (live-out s v)) in
+    let two = fill-more {xs = set live (2 * v + 1) x} {x = x} (subst (Filled mostNodes false (liveNode s) (set live (2 * v + 1) x)) q one) (omega arith) (t .says v h ∙ sym (live-out s v)) in
     let p : 2 * v + 2 + 1 ≡ 2 * (v + 1) + 1 = omega arith in
-    as-live (subst (Filled 129 false (liveNode s) (set (set live (2 * v + 1) x) (2 * v + 2) x)) p two)
+    as-live (subst (Filled mostNodes false (liveNode s) (set (set live (2 * v + 1) x) (2 * v + 2) x)) p two)

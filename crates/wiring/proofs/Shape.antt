@@ -14,7 +14,7 @@ use Rattle.mathematics.specs.Graph.{isStart, isEnd, hasArc, linked, WellFormed}
 use Rattle.mathematics.specs.Cover.{Ask, vert, vertexAsks, arcAsk}
 use Rattle.mathematics.specs.Exists.{Coverable}
 use Rattle.mathematics.specs.Reach.{fromStart, toEnd, useful}
-use Rattle.mathematics.proofs.Basics.{and-l, and-r, and-in, is-true, test, all-among, all-left, all-right, all-unmap}
+use Rattle.mathematics.proofs.Basics.{and-l, and-r, and-in, is-true, test, all-among, all-left, all-right, all-unmap, at-all}
 use Rattle.mathematics.proofs.Reach.{linked-first, linked-rest, start-from-start, end-to-end, from-start-path, to-end-path, useful-along}
 use Rattle.mathematics.proofs.Prepared.{prepared-fewer}
 use Rattle.mathematics.proofs.Base.{usefulItem, Useful}
@@ -24,14 +24,16 @@ use Rattle.forms.specs.Bytes.{tabulate}
 use Rattle.forms.specs.GraphForm.{vertexCount, arcCount, openingPrice, vertexDemand, arcAt, arcCost, arcDemand}
 use Rattle.forms.specs.GraphOf.{vertexOf, arcOf, graphOf, arcItem}
 use Rattle.forms.specs.GraphReads.{Reads}
-use Rattle.reads.proofs.TableLaws.{at-all}
 use Rattle.forms.proofs.ArcNumbers.{arc-among, arc-number}
 use Rattle.forms.proofs.GraphFacts.{graph-well-formed, graph-within}
-use Rattle.network.specs.Network.{at, liveAt, sumTo, Way, stop, step, base, reach, Shape, Keys, Waiting, leaving, entering, share}
+use Rattle.network.specs.Network.{nth, liveAt, sumTo, Way, stop, step, base, span, Shape, Keys, Waiting, leaving, entering, share, mostNodes, mostEdges, mostMoved, mostCost, mostSteps, stepCost}
 use Rattle.paths.specs.Slots.{preparedOf, plainSlots, allSlots, acrossSlot, openingSlot, closingSlot, readingSlot, linkAt, liveNode, inUse, edgeFrom, edgeTo, edgeCost, firstLoad}
 use Rattle.wiring.specs.Lay.{EdgesLaid, LoadsLaid, LiveLaid, Summable, Balanced}
+use Rattle.reads.specs.ReadTable.{tableRows}
+use Rattle.forms.specs.Limits.{maxVertices, maxDemand}
 use Rattle.network.proofs.NetworkLaws.{same-or-not, below-or-not, sum-same, sum-none, sum-ones, share-other}
-use Rattle.wiring.proofs.SlotLaws.{SlotKind, is-inside, is-across, is-opening, is-closing, slot-kind, at-reading, first-inside, first-across, first-end, useful-below, sum-split, sum-most}
+use Rattle.paths.proofs.SlotKinds.{SlotKind, is-inside, is-across, is-opening, is-closing, slot-kind, at-reading}
+use Rattle.wiring.proofs.SlotLaws.{first-inside, first-across, first-end, useful-below, sum-split, sum-most}
 use Rattle.wiring.proofs.LayLaws.{EdgeIs, inside-edge, across-edge, opening-edge, closing-edge, listed, few-plain}
 use Rattle.wiring.proofs.LayLawsLoad.{live-root, live-in, live-out, first-behind}
 use Rattle.wiring.proofs.LayLawsBalance.{sum-low, balance-same, balance-low}
@@ -48,7 +50,7 @@ module _ (s : List ℕ) (r : Reads s) where
   wf : WellFormed (graphOf s)
   wf = graph-well-formed s r
 
-  few : vertexCount s ≤ 64
+  few : vertexCount s ≤ maxVertices
   few = r .arcs .header .few-vertices
 
   -- ---- live nodes and the ends of edges
@@ -100,18 +102,18 @@ module _ (s : List ℕ) (r : Reads s) where
 
   -- ---- costs
 
-  cost-low : (e : ℕ) → e < plainSlots s → edgeCost s e ≤ 1_000_000_000
+  cost-low : (e : ℕ) → e < plainSlots s → edgeCost s e ≤ mostCost
   unfolding edgeCost
-  cost-low e h = low-cond 1_000_000_000 (inUse s (linkAt s e)) (listed s e) 0 (kind (below-or-not e (vertexCount s)) (below-or-not e (vertexCount s + arcCount s))) (omega arith)
+  cost-low e h = low-cond mostCost (inUse s (linkAt s e)) (listed s e) 0 (kind (below-or-not e (vertexCount s)) (below-or-not e (vertexCount s + arcCount s))) (omega arith)
     where
-      kind : (e < vertexCount s) ⊎ (vertexCount s ≤ e) → (e < vertexCount s + arcCount s) ⊎ (vertexCount s + arcCount s ≤ e) → listed s e ≤ 1_000_000_000
+      kind : (e < vertexCount s) ⊎ (vertexCount s ≤ e) → (e < vertexCount s + arcCount s) ⊎ (vertexCount s + arcCount s ≤ e) → listed s e ≤ mostCost
       kind (inl l) y = rw (lt-ltb e (vertexCount s) l) (omega arith)
       kind (inr g) (inl l) =
           rw (le-ltb e (vertexCount s) g, lt-ltb e (vertexCount s + arcCount s) l)
           (omega (arith, r .arcs .each (vertexCount s + arcCount s - (e + 1)) (omega arith) .low-cost))
       kind (inr g) (inr k) =
           rw (le-ltb e (vertexCount s) g, le-ltb e (vertexCount s + arcCount s) k)
-          (low-cond 1_000_000_000 (ltb e (2 * vertexCount s + arcCount s)) (openingPrice s) 0 (r .arcs .header .low-opening) (omega arith))
+          (low-cond mostCost (ltb e (2 * vertexCount s + arcCount s)) (openingPrice s) 0 (r .arcs .header .low-opening) (omega arith))
 
   -- ---- the root, or a side of a vertex
 
@@ -141,9 +143,9 @@ module _ (s : List ℕ) (r : Reads s) where
     -- an edge in use before a way
     go : (e a b c : ℕ) → e < plainSlots s → EdgeIs s e true a b c → {w d : ℕ} → Ways b w d → Ways a w (c + d)
     go e a b c h is {w} {d} way =
-        let f : at from e ≡ a = laid .from-is e (omega arith) ∙ sym (is .from-is) in
-        let t : b ≡ at to e = is .to-is ∙ sym (laid .to-is e (omega arith)) in
-        let q : at cost e ≡ c = laid .cost-is e (omega arith) ∙ sym (is .cost-is) in
+        let f : nth from e ≡ a = laid .from-is e (omega arith) ∙ sym (is .from-is) in
+        let t : b ≡ nth to e = is .to-is ∙ sym (laid .to-is e (omega arith)) in
+        let q : nth cost e ≡ c = laid .cost-is e (omega arith) ∙ sym (is .cost-is) in
         subst₂ (λ x y. Ways x w (y + d)) f q (step e h (subst (λ x. Ways x w d) t way))
 
     go-inside : (v : ℕ) → T (useful (graphOf s) v) → {w d : ℕ} → Ways (outNode v) w d → Ways (inNode v) w (0 + d)
@@ -152,7 +154,7 @@ module _ (s : List ℕ) (r : Reads s) where
         go v (inNode v) (outNode v) 0 (omega arith) (inside-edge s v b true (sym (is-true _ u))) way
 
     go-across : (u v : ℕ) → T (hasArc (graphOf s .arcs) u v) → T (useful (graphOf s) u) → T (useful (graphOf s) v) → {w d : ℕ} → Ways (inNode v) w d →
-        (c : ℕ) × (c ≤ 1_000_000) × (u < v) × Ways (outNode u) w (c + d)
+        (c : ℕ) × (c ≤ stepCost) × (u < v) × Ways (outNode u) w (c + d)
     go-across u v l p q way =
         let (a, h, tail, head) = arc-number s u v l in
         let x = r .arcs .each a h in (
@@ -178,7 +180,7 @@ module _ (s : List ℕ) (r : Reads s) where
 
     -- along a list of useful vertices: numbers rise, and each arc costs a million at the most
     along : (u : ℕ) (p : List ℕ) → T (linked (graphOf s .arcs) (u ∷ p)) → All (λ x. T (useful (graphOf s) x)) (u ∷ p) → (w c : ℕ) → Ways (inNode (lastOf u p)) w c →
-        (d : ℕ) × (d + u * 1_000_000 ≤ c + lastOf u p * 1_000_000) × Ways (inNode u) w d
+        (d : ℕ) × (d + u * stepCost ≤ c + lastOf u p * stepCost) × Ways (inNode u) w d
     along u [] l us w c way = (c, omega arith, way)
     along u (v ∷ p) l us w c way =
         let (d, b, on) = along v p (linked-rest (graphOf s .arcs) u v p l) (us .1) w c way in
@@ -186,7 +188,7 @@ module _ (s : List ℕ) (r : Reads s) where
         (0 + (j + d), omega arith, go-inside u (us .0) over)
 
     -- from the root to the in side of a useful vertex, and on
-    from-root-in : (v : ℕ) → T (useful (graphOf s) v) → (w c : ℕ) → Ways (inNode v) w c → (d : ℕ) × (d ≤ c + reach) × Ways 0 w d
+    from-root-in : (v : ℕ) → T (useful (graphOf s) v) → (w c : ℕ) → Ways (inNode v) w c → (d : ℕ) × (d ≤ c + span) × Ways 0 w d
     from-root-in v u w c way =
         let (a, p, st, l, e) = from-start-path (graphOf s) v (and-l (fromStart (graphOf s) v) (toEnd (graphOf s) v) u) in
         let us = useful-along (graphOf s) wf a p l (start-from-start (graphOf s) a st) (subst (λ x. T (toEnd (graphOf s) x)) (sym e) (and-r (fromStart (graphOf s) v) (toEnd (graphOf s) v) u)) in
@@ -203,25 +205,25 @@ module _ (s : List ℕ) (r : Reads s) where
     last-useful v (w ∷ q) us = last-useful w q (us .1)
 
     home : (v : ℕ) (q : List ℕ) → T (linked (graphOf s .arcs) (v ∷ q)) → T (isEnd (graphOf s) (lastOf v q)) → All (λ x. T (useful (graphOf s) x)) (v ∷ q) →
-        (d : ℕ) × (d ≤ 63_000_000) × Ways (inNode v) 0 d
+        (d : ℕ) × (d ≤ mostSteps * stepCost) × Ways (inNode v) 0 d
     home v q l en us =
         let last = last-useful v q us in
         let (d, b, on) = along v q l us 0 0 (go-inside (lastOf v q) last (go-closing (lastOf v q) en last)) in
         (d, omega (arith, useful-below s r (lastOf v q) last, few), on)
 
-    to-root-in : (v : ℕ) → T (useful (graphOf s) v) → (d : ℕ) × (d ≤ reach) × Ways (inNode v) 0 d
+    to-root-in : (v : ℕ) → T (useful (graphOf s) v) → (d : ℕ) × (d ≤ span) × Ways (inNode v) 0 d
     to-root-in v u =
         let (q, l, en) = to-end-path (graphOf s) v (and-r (fromStart (graphOf s) v) (toEnd (graphOf s) v) u) in
         let (d, b, on) = home v q l en (onward v u q l en) in
         (d, omega arith, on)
 
-    to-root-out : (v : ℕ) → T (useful (graphOf s) v) → (d : ℕ) × (d ≤ reach) × Ways (outNode v) 0 d
+    to-root-out : (v : ℕ) → T (useful (graphOf s) v) → (d : ℕ) × (d ≤ span) × Ways (outNode v) 0 d
     to-root-out v u =
         let (q, l, en) = to-end-path (graphOf s) v (and-r (fromStart (graphOf s) v) (toEnd (graphOf s) v) u) in
         split q l en (onward v u q l en)
       where
         split : (q : List ℕ) → T (linked (graphOf s .arcs) (v ∷ q)) → T (isEnd (graphOf s) (lastOf v q)) → All (λ x. T (useful (graphOf s) x)) (v ∷ q) →
-            (d : ℕ) × (d ≤ reach) × Ways (outNode v) 0 d
+            (d : ℕ) × (d ≤ span) × Ways (outNode v) 0 d
         split [] l en us = (0 + 0, omega arith, go-closing v en (us .0))
         split (w ∷ q) l en us =
             let (d, b, on) = home w q (linked-rest (graphOf s .arcs) v w q l) en (us .1) in
@@ -230,10 +232,10 @@ module _ (s : List ℕ) (r : Reads s) where
 
     -- ---- the shape
 
-    from-root-way : (u : ℕ) → u < nodesOf → T (liveNode s u) → (c : ℕ) × (c ≤ reach) × Ways 0 u c
+    from-root-way : (u : ℕ) → u < nodesOf → T (liveNode s u) → (c : ℕ) × (c ≤ span) × Ways 0 u c
     from-root-way u h lives = by (node-kind u)
       where
-        by : NodeKind u → (c : ℕ) × (c ≤ reach) × Ways 0 u c
+        by : NodeKind u → (c : ℕ) × (c ≤ span) × Ways 0 u c
         by (inl z) = (0, omega arith, subst (λ x. Ways 0 x 0) (sym z) stop)
         by (inr (v, inl e)) =
             let (d, b, way) = from-root-in v (in-useful v u e lives) (inNode v) 0 stop in
@@ -242,10 +244,10 @@ module _ (s : List ℕ) (r : Reads s) where
             let (d, b, way) = from-root-in v (out-useful v u e lives) (outNode v) 0 (go-inside v (out-useful v u e lives) stop) in
             (d, omega arith, subst (λ x. Ways 0 x d) (sym e) way)
 
-    to-root-way : (u : ℕ) → u < nodesOf → T (liveNode s u) → (c : ℕ) × (c ≤ reach) × Ways u 0 c
+    to-root-way : (u : ℕ) → u < nodesOf → T (liveNode s u) → (c : ℕ) × (c ≤ span) × Ways u 0 c
     to-root-way u h lives = by (node-kind u)
       where
-        by : NodeKind u → (c : ℕ) × (c ≤ reach) × Ways u 0 c
+        by : NodeKind u → (c : ℕ) × (c ≤ span) × Ways u 0 c
         by (inl z) = (0, omega arith, subst (λ x. Ways x 0 0) (sym z) stop)
         by (inr (v, inl e)) = let (d, b, way) = to-root-in v (in-useful v u e lives) in (d, b, subst (λ x. Ways x 0 d) (sym e) way)
         by (inr (v, inr e)) = let (d, b, way) = to-root-out v (out-useful v u e lives) in (d, b, subst (λ x. Ways x 0 d) (sym e) way)
@@ -263,8 +265,8 @@ module _ (s : List ℕ) (r : Reads s) where
             few-edges = omega (arith, few-plain r);
             root-live = seen 0 0 refl root-ok .1;
             some-node = omega arith;
-            from-live = λ e h. seen (edgeFrom s e) (at from e) (laid .from-is e (omega arith)) (edge-ok e (fine-plain e (slot-kind s e h)) .0);
-            to-live = λ e h. seen (edgeTo s e) (at to e) (laid .to-is e (omega arith)) (edge-ok e (fine-plain e (slot-kind s e h)) .1);
+            from-live = λ e h. seen (edgeFrom s e) (nth from e) (laid .from-is e (omega arith)) (edge-ok e (fine-plain e (slot-kind s e h)) .0);
+            to-live = λ e h. seen (edgeTo s e) (nth to e) (laid .to-is e (omega arith)) (edge-ok e (fine-plain e (slot-kind s e h)) .1);
             cheap = λ e h. omega (arith, cost-low e h, laid .cost-is e (omega arith));
             from-root = λ u h t. from-root-way u h (subst T (L .is u h) t);
             to-root = λ u h t. to-root-way u h (subst T (L .is u h) t);
@@ -272,7 +274,7 @@ module _ (s : List ℕ) (r : Reads s) where
 
   -- ---- first loads
 
-  few-reads : length (preparedOf s) ≤ 16
+  few-reads : length (preparedOf s) ≤ tableRows
   few-reads = omega (arith, prepared-fewer (graphOf s .reads), graph-within s r .few-reads)
 
   -- what holds of each ask holds of each vertex with its demand
@@ -283,21 +285,21 @@ module _ (s : List ℕ) (r : Reads s) where
       ⊎-elim (λ (e : v ≡ i). subst (λ x. P (record { item = vert x; demand = vertexDemand s x })) (sym e) (h .0))
       (λ ne. vertex-of P k (suc i) (h .1) v (omega arith) (omega arith)) (same-or-not v i)
 
-  low-load : (e : ℕ) → e < allSlots s → firstLoad s e ≤ 1_000_000
+  low-load : (e : ℕ) → e < allSlots s → firstLoad s e ≤ maxDemand
   low-load e h = by (below-or-not e (plainSlots s))
     where
-      kind : SlotKind s e → firstLoad s e ≤ 1_000_000
+      kind : SlotKind s e → firstLoad s e ≤ maxDemand
       kind (is-inside v b q l) = omega (arith, ap (firstLoad s) q, first-inside s v b, r .vertices v b .low-demand)
       kind (is-across a b q l) = omega (arith, ap (firstLoad s) q, first-across s a b, r .arcs .each a b .low-demand)
       kind (is-opening v b q l) = omega (arith, first-end s e (omega arith) (omega arith))
       kind (is-closing v b q l) = omega (arith, first-end s e (omega arith) (omega arith))
 
-      by : (e < plainSlots s) ⊎ (plainSlots s ≤ e) → firstLoad s e ≤ 1_000_000
+      by : (e < plainSlots s) ⊎ (plainSlots s ≤ e) → firstLoad s e ≤ maxDemand
       by (inl l) = kind (slot-kind s e l)
       by (inr g) = omega (arith, first-behind s e (omega arith), low-cond 1 (ltb e (plainSlots s)) 0 1 (omega arith) (omega arith))
 
-  -- "weights totalling at most 320,000,016": 64 and 256 demands of a million each, and 16 reads
-  low-total : sumTo (allSlots s) (firstLoad s) ≤ 320_000_016
+  -- "weights totalling at most 320,000,016": a demand for each vertex and arc that there can be, and each read once
+  low-total : sumTo (allSlots s) (firstLoad s) ≤ mostMoved
   low-total =
       omega (
         arith,
@@ -389,14 +391,14 @@ module _ (s : List ℕ) (r : Reads s) where
           }
 
       -- a node that is not live is no edge's end
-      none-at-dead : (key : List ℕ) (u : ℕ) → (T (liveNode s u) → ⊥) → ((e : ℕ) → e < allSlots s → T (liveNode s (at key e))) →
-          sumTo (allSlots s) (λ e. share u (at key e) (at first e)) ≡ 0
+      none-at-dead : (key : List ℕ) (u : ℕ) → (T (liveNode s u) → ⊥) → ((e : ℕ) → e < allSlots s → T (liveNode s (nth key e))) →
+          sumTo (allSlots s) (λ e. share u (nth key e) (nth first e)) ≡ 0
       none-at-dead key u dead ends =
-          sum-none (allSlots s) (λ e. share u (at key e) (at first e)) (λ e h. share-other u (at key e) (at first e) (λ q. dead (subst (λ x. T (liveNode s x)) (sym q) (ends e h))))
+          sum-none (allSlots s) (λ e. share u (nth key e) (nth first e)) (λ e h. share-other u (nth key e) (nth first e) (λ q. dead (subst (λ x. T (liveNode s x)) (sym q) (ends e h))))
 
       module _ (live : List Bool) (L : LiveLaid s nodesOf live) (surplus deficit : List ℕ) (B : Balanced nodesOf (allSlots s) from to first surplus deficit) where
         -- Dead nodes have neither surplus nor deficit.
-        dead-none : (u : ℕ) → u < nodesOf → (T (liveAt live u) → ⊥) → (at surplus u ≡ 0) × (at deficit u ≡ 0)
+        dead-none : (u : ℕ) → u < nodesOf → (T (liveAt live u) → ⊥) → (nth surplus u ≡ 0) × (nth deficit u ≡ 0)
         unfolding leaving entering
         dead-none u h dead =
             let gone : T (liveNode s u) → ⊥ = λ t. dead (subst T (sym (L .is u h)) t) in
@@ -406,15 +408,15 @@ module _ (s : List ℕ) (r : Reads s) where
             ⊎-elim (λ z. omega (arith, same, out, into)) (λ z. omega (arith, same, out, into)) (B .apart u h)
 
         -- "Weights total at most the surplus that was routed, 320,000,016": there is as much surplus as deficit, and no more than that.
-        pub balance-sums : (sumTo nodesOf (λ u. at surplus u) ≡ sumTo nodesOf (λ u. at deficit u)) × (sumTo nodesOf (λ u. at surplus u) ≤ 320_000_016)
+        pub balance-sums : (sumTo nodesOf (λ u. nth surplus u) ≡ sumTo nodesOf (λ u. nth deficit u)) × (sumTo nodesOf (λ u. nth surplus u) ≤ mostMoved)
         balance-sums = (
           balance-same summable B,
-          omega (arith, balance-low summable B, sum-same (allSlots s) (at first) (firstLoad s) (loads .is), low-total),
+          omega (arith, balance-low summable B, sum-same (allSlots s) (nth first) (firstLoad s) (loads .is), low-total),
         )
 
         -- What carrying everything asks for, with no load yet and every mark at the base.
-        pub ready-to-carry : (load mark : List ℕ) → length load ≡ 464 → length mark ≡ 129 → ((e : ℕ) → e < plainSlots s → at load e ≡ 0) →
-            ((u : ℕ) → u < nodesOf → at mark u ≡ base) → Waiting nodesOf (plainSlots s) live load mark surplus deficit
+        pub ready-to-carry : (load mark : List ℕ) → length load ≡ mostEdges → length mark ≡ mostNodes → ((e : ℕ) → e < plainSlots s → nth load e ≡ 0) →
+            ((u : ℕ) → u < nodesOf → nth mark u ≡ base) → Waiting nodesOf (plainSlots s) live load mark surplus deficit
         ready-to-carry load mark load-long mark-long none marked =
             record {
               load-long = load-long;
@@ -430,8 +432,8 @@ module _ (s : List ℕ) (r : Reads s) where
             }
 
 -- What building the chains asks for.
-pub keys-from : {N E : ℕ} {live : List Bool} {from to cost : List ℕ} → Shape N E live from to cost → (head next : List ℕ) → length head ≡ 129 → length next ≡ 464 → Keys N E from head next
+pub keys-from : {N E : ℕ} {live : List Bool} {from to cost : List ℕ} → Shape N E live from to cost → (head next : List ℕ) → length head ≡ mostNodes → length next ≡ mostEdges → Keys N E from head next
 keys-from S head next h n = record { few-nodes = S .few-nodes; few-edges = S .few-edges; key-node = λ e l. S .from-live e l .0; head-long = h; next-long = n }
 
-pub keys-to : {N E : ℕ} {live : List Bool} {from to cost : List ℕ} → Shape N E live from to cost → (head next : List ℕ) → length head ≡ 129 → length next ≡ 464 → Keys N E to head next
+pub keys-to : {N E : ℕ} {live : List Bool} {from to cost : List ℕ} → Shape N E live from to cost → (head next : List ℕ) → length head ≡ mostNodes → length next ≡ mostEdges → Keys N E to head next
 keys-to S head next h n = record { few-nodes = S .few-nodes; few-edges = S .few-edges; key-node = λ e l. S .to-live e l .0; head-long = h; next-long = n }

@@ -1,4 +1,4 @@
--- The slots of a graph form, one by one: which link stands at each, what lies on it at first; the slot of each vertex and arc that asks; and sums over all slots.
+-- The slots of a graph form, one by one: what lies on each at first; the slot of each vertex and arc that asks; and sums over all slots.
 use Prim.Native.Nat.{ℕ, zero, suc, _+_, _*_, _-_, _≤_, _<_}
 use native.Mathlib.Omega.{arith}
 use native.Mathlib.Nat.{mul-zero, mul-one, one-mul}
@@ -16,15 +16,16 @@ use Rattle.mathematics.specs.Reach.{fromStart, toEnd, useful}
 use Rattle.mathematics.proofs.Reach.{from-start-below}
 use Rattle.mathematics.proofs.Basics.{and-l, and-in, is-true, is-false, all-append, all-map}
 use Rattle.mathematics.proofs.Base.{same-item}
-use Rattle.mathematics.proofs.Links.{opening, closing, inside, across, reading, passes, opens}
+use Rattle.mathematics.proofs.Links.{passes, opens}
 use Rattle.forms.specs.Bytes.{tabulate}
-use Rattle.forms.specs.GraphForm.{vertexCount, arcCount, openingPrice, vertexDemand, arcAt, arcTail, arcHead, arcCost, arcDemand}
+use Rattle.forms.specs.GraphForm.{vertexCount, arcCount, openingPrice, vertexDemand, arcAt, arcCost, arcDemand}
 use Rattle.forms.specs.GraphOf.{vertexOf, arcOf, graphOf, arcItem}
 use Rattle.forms.specs.GraphReads.{ArcsRight, Reads}
 use Rattle.forms.proofs.GraphFacts.{all-tabulate, ends-differ, graph-well-formed}
 use Rattle.forms.proofs.GraphRange.{vertices-length}
-use Rattle.network.specs.Network.{at, sumTo}
+use Rattle.network.specs.Network.{nth, sumTo}
 use Rattle.paths.specs.Slots.{preparedOf, plainSlots, allSlots, insideSlot, acrossSlot, openingSlot, closingSlot, readingSlot, linkAt, inUse, edgeCost, firstLoad, copiesOf}
+use Rattle.paths.proofs.SlotKinds.{SlotKind, is-inside, is-across, is-opening, is-closing, slot-kind, at-inside, at-across, at-opening, at-closing, at-reading}
 use Rattle.network.proofs.NetworkLaws.{same-or-not, below-or-not, sum-same, sum-none}
 
 -- ---- sums
@@ -85,14 +86,7 @@ own (arc u v) = and-in (eqb u u) (eqb v v) (eqb-refl u) (eqb-refl v)
 below : (a b : ℕ) → a ≢ b → b ≤ a → b < a
 below a b ne h = omega arith
 
--- ---- what stands at a slot
-
--- the kind of slot e, with its place among its kind
-pub data SlotKind (s : List ℕ) (e : ℕ) : Type 0 where
-  is-inside : (v : ℕ) → v < vertexCount s → e ≡ insideSlot s v → linkAt s e ≡ inside v → SlotKind s e
-  is-across : (a : ℕ) → a < arcCount s → e ≡ acrossSlot s a → linkAt s e ≡ across (arcTail s (arcAt s a)) (arcHead s (arcAt s a)) → SlotKind s e
-  is-opening : (v : ℕ) → v < vertexCount s → e ≡ openingSlot s v → linkAt s e ≡ opening v → SlotKind s e
-  is-closing : (v : ℕ) → v < vertexCount s → e ≡ closingSlot s v → linkAt s e ≡ closing v → SlotKind s e
+-- ---- what lies on a slot at first
 
 module _ (s : List ℕ) where
   abbrev n : ℕ
@@ -100,66 +94,6 @@ module _ (s : List ℕ) where
 
   abbrev m : ℕ
   m = arcCount s
-
-  pub at-inside : (v : ℕ) → v < vertexCount s → linkAt s (insideSlot s v) ≡ inside v
-  unfolding linkAt
-  at-inside v h = rw (lt-ltb v n h)
-
-  pub at-across : (a : ℕ) → a < arcCount s → linkAt s (acrossSlot s a) ≡ across (arcTail s (arcAt s a)) (arcHead s (arcAt s a))
-  unfolding linkAt
-  at-across a h =
-      let k : n + m - (acrossSlot s a + 1) ≡ a = omega arith in
-      rw (le-ltb (acrossSlot s a) n (omega arith), lt-ltb (acrossSlot s a) (n + m) (omega arith), k)
-
-  pub at-opening : (v : ℕ) → v < vertexCount s → linkAt s (openingSlot s v) ≡ opening v
-  unfolding linkAt
-  at-opening v h =
-      let k : 2 * n + m - (openingSlot s v + 1) ≡ v = omega arith in
-      rw (le-ltb (openingSlot s v) n (omega arith), le-ltb (openingSlot s v) (n + m) (omega arith), lt-ltb (openingSlot s v) (2 * n + m) (omega arith), k)
-
-  pub at-closing : (v : ℕ) → v < vertexCount s → linkAt s (closingSlot s v) ≡ closing v
-  unfolding linkAt
-  at-closing v h =
-      let k : closingSlot s v - (2 * n + m) ≡ v = omega arith in
-      rw (
-        le-ltb (closingSlot s v) n (omega arith),
-        le-ltb (closingSlot s v) (n + m) (omega arith),
-        le-ltb (closingSlot s v) (2 * n + m) (omega arith),
-        lt-ltb (closingSlot s v) (plainSlots s) (omega arith),
-        k,
-      )
-
-  pub at-reading : (r : ℕ) → linkAt s (readingSlot s r) ≡ reading (getD (preparedOf s) r [])
-  unfolding linkAt
-  at-reading r =
-      let k : readingSlot s r - plainSlots s ≡ r = omega arith in
-      rw (
-        le-ltb (readingSlot s r) n (omega arith),
-        le-ltb (readingSlot s r) (n + m) (omega arith),
-        le-ltb (readingSlot s r) (2 * n + m) (omega arith),
-        le-ltb (readingSlot s r) (plainSlots s) (omega arith),
-        k,
-      )
-
-  pub slot-kind : (e : ℕ) → e < plainSlots s → SlotKind s e
-  slot-kind e h = one (below-or-not e n) (below-or-not e (n + m)) (below-or-not e (2 * n + m))
-    where
-      one : (e < n) ⊎ (n ≤ e) → (e < n + m) ⊎ (n + m ≤ e) → (e < 2 * n + m) ⊎ (2 * n + m ≤ e) → SlotKind s e
-      one (inl l) y z = is-inside e l refl (at-inside e l)
-      one (inr g) (inl l) z =
-          let a : ℕ = n + m - (e + 1) in
-          let k : e ≡ acrossSlot s a = omega arith in
-          is-across a (omega arith) k (ap (linkAt s) k ∙ at-across a (omega arith))
-      one (inr g) (inr k) (inl l) =
-          let v : ℕ = 2 * n + m - (e + 1) in
-          let q : e ≡ openingSlot s v = omega arith in
-          is-opening v (omega arith) q (ap (linkAt s) q ∙ at-opening v (omega arith))
-      one (inr g) (inr k) (inr j) =
-          let v : ℕ = e - (2 * n + m) in
-          let q : e ≡ closingSlot s v = omega arith in
-          is-closing v (omega arith) q (ap (linkAt s) q ∙ at-closing v (omega arith))
-
-  -- ---- what lies on a slot at first
 
   pub first-inside : (v : ℕ) → v < vertexCount s → firstLoad s (insideSlot s v) ≡ rest (preparedOf s) (vert v) (vertexDemand s v)
   unfolding firstLoad
@@ -215,8 +149,8 @@ module _ (s : List ℕ) where
   vertex-slot v h =
       record {
         below = omega arith;
-        once = ap (passes (vert v)) (at-inside v h) ∙ one-more (sameItem (vert v) (vert v)) 0 (eq-eqb v v refl);
-        alone = λ d b ne. other d ne (slot-kind d b);
+        once = ap (passes (vert v)) (at-inside s v h) ∙ one-more (sameItem (vert v) (vert v)) 0 (eq-eqb v v refl);
+        alone = λ d b ne. other d ne (slot-kind s d b);
         at-first = first-inside v h;
       }
     where
@@ -251,8 +185,8 @@ module _ (s : List ℕ) where
     arc-slot a h =
         record {
           below = omega arith;
-          once = ap (passes (arcItem s a)) (at-across a h) ∙ one-more (sameItem (arcItem s a) (arcItem s a)) 0 (is-true _ (own (arcItem s a)));
-          alone = λ d b ne. other d ne (slot-kind d b);
+          once = ap (passes (arcItem s a)) (at-across s a h) ∙ one-more (sameItem (arcItem s a) (arcItem s a)) 0 (is-true _ (own (arcItem s a)));
+          alone = λ d b ne. other d ne (slot-kind s d b);
           at-first = first-across a h;
         }
       where
@@ -270,17 +204,17 @@ module _ (s : List ℕ) where
   -- ---- sums over all slots
 
   -- what an item's own slot and the readings bring to it
-  pub item-worth : (full : List ℕ) → ((r : ℕ) → r < length (preparedOf s) → at full (readingSlot s r) ≡ 1) → (a : Ask) (e : ℕ) → OwnSlot a e →
-      sumTo (allSlots s) (λ d. at full d * passes (a .item) (linkAt s d)) ≡ at full e + readsThrough (a .item) (preparedOf s)
+  pub item-worth : (full : List ℕ) → ((r : ℕ) → r < length (preparedOf s) → nth full (readingSlot s r) ≡ 1) → (a : Ask) (e : ℕ) → OwnSlot a e →
+      sumTo (allSlots s) (λ d. nth full d * passes (a .item) (linkAt s d)) ≡ nth full e + readsThrough (a .item) (preparedOf s)
   item-worth full ones a e own =
       sum-split (plainSlots s) (length (preparedOf s)) f ∙
       ap₂ (λ (x y : ℕ). x + y)
-      (sum-single (plainSlots s) e f (own .below) (λ d b ne. times-nothing (at full d) _ (own .alone d b ne)) ∙ times-once (at full e) _ (own .once))
+      (sum-single (plainSlots s) e f (own .below) (λ d b ne. times-nothing (nth full d) _ (own .alone d b ne)) ∙ times-once (nth full e) _ (own .once))
       (sum-same (length (preparedOf s)) (λ r. f (readingSlot s r)) (λ r. through (a .item) (getD (preparedOf s) r [])) each ∙
       sum-reads (a .item) (preparedOf s))
     where
       f : ℕ → ℕ
-      f d = at full d * passes (a .item) (linkAt s d)
+      f d = nth full d * passes (a .item) (linkAt s d)
 
       times-nothing : (x y : ℕ) → y ≡ 0 → x * y ≡ 0
       times-nothing x y z = ap (λ k. x * k) z ∙ mul-zero x
@@ -289,26 +223,26 @@ module _ (s : List ℕ) where
       times-once x y z = ap (λ k. x * k) z ∙ mul-one x
 
       each : (r : ℕ) → r < length (preparedOf s) → f (readingSlot s r) ≡ through (a .item) (getD (preparedOf s) r [])
-      each r h = ap₂ (λ x l. x * passes (a .item) l) (ones r h) (at-reading r) ∙ one-mul (through (a .item) (getD (preparedOf s) r []))
+      each r h = ap₂ (λ x l. x * passes (a .item) l) (ones r h) (at-reading s r) ∙ one-mul (through (a .item) (getD (preparedOf s) r []))
 
   -- the copies that the loads open are those on the openings
-  pub opens-worth : (full : List ℕ) → sumTo (allSlots s) (λ d. at full d * opens (linkAt s d)) ≡ copiesOf s full
+  pub opens-worth : (full : List ℕ) → sumTo (allSlots s) (λ d. nth full d * opens (linkAt s d)) ≡ copiesOf s full
   opens-worth full =
       ap (λ k. sumTo k f) (let e : allSlots s ≡ n + m + n + (n + length (preparedOf s)) = omega arith in e) ∙
       (sum-split (n + m + n) (n + length (preparedOf s)) f ∙
       omega (
         arith,
         sum-split (n + m) n f,
-        sum-none (n + m) f (λ d h. nothing d (before d h (slot-kind d (omega arith)))),
-        sum-same n (λ k. f (n + m + k)) (λ k. at full (n + m + k)) opened,
+        sum-none (n + m) f (λ d h. nothing d (before d h (slot-kind s d (omega arith)))),
+        sum-same n (λ k. f (n + m + k)) (λ k. nth full (n + m + k)) opened,
         sum-none (n + length (preparedOf s)) (λ k. f (n + m + n + k)) (λ k h. nothing (n + m + n + k) (behind k h)),
       ))
     where
       f : ℕ → ℕ
-      f d = at full d * opens (linkAt s d)
+      f d = nth full d * opens (linkAt s d)
 
       nothing : (d : ℕ) → opens (linkAt s d) ≡ 0 → f d ≡ 0
-      nothing d z = ap (λ k. at full d * k) z ∙ mul-zero (at full d)
+      nothing d z = ap (λ k. nth full d * k) z ∙ mul-zero (nth full d)
 
       before : (d : ℕ) → d < n + m → SlotKind s d → opens (linkAt s d) ≡ 0
       before d h (is-inside v b e l) = ap opens l
@@ -316,15 +250,15 @@ module _ (s : List ℕ) where
       before d h (is-opening v b e l) = absurd (omega arith)
       before d h (is-closing v b e l) = absurd (omega arith)
 
-      opened : (k : ℕ) → k < n → f (n + m + k) ≡ at full (n + m + k)
+      opened : (k : ℕ) → k < n → f (n + m + k) ≡ nth full (n + m + k)
       opened k h =
           let v : ℕ = n - (k + 1) in
           let e : n + m + k ≡ openingSlot s v = omega arith in
-          ap (λ l. at full (n + m + k) * opens l) (ap (linkAt s) e ∙ at-opening v (omega arith)) ∙ mul-one (at full (n + m + k))
+          ap (λ l. nth full (n + m + k) * opens l) (ap (linkAt s) e ∙ at-opening s v (omega arith)) ∙ mul-one (nth full (n + m + k))
 
       behind : (k : ℕ) → k < n + length (preparedOf s) → opens (linkAt s (n + m + n + k)) ≡ 0
       behind k h = go (below-or-not k n)
         where
           go : (k < n) ⊎ (n ≤ k) → opens (linkAt s (n + m + n + k)) ≡ 0
-          go (inl l) = let e : n + m + n + k ≡ closingSlot s k = omega arith in ap opens (ap (linkAt s) e ∙ at-closing k l)
-          go (inr l) = let e : n + m + n + k ≡ readingSlot s (k - n) = omega arith in ap opens (ap (linkAt s) e ∙ at-reading (k - n))
+          go (inl l) = let e : n + m + n + k ≡ closingSlot s k = omega arith in ap opens (ap (linkAt s) e ∙ at-closing s k l)
+          go (inr l) = let e : n + m + n + k ≡ readingSlot s (k - n) = omega arith in ap opens (ap (linkAt s) e ∙ at-reading s (k - n))

@@ -10,8 +10,9 @@ use Rattle.mathematics.specs.Bound.{readsThrough}
 use Rattle.mathematics.specs.Cover.{vert}
 use Rattle.forms.specs.GraphForm.{vertexCount, arcCount}
 use Rattle.forms.specs.GraphOf.{arcItem}
-use Rattle.network.specs.Network.{at, liveAt, leaving, entering}
+use Rattle.network.specs.Network.{nth, liveAt, leaving, entering, mostNodes, mostEdges}
 use Rattle.paths.specs.Slots.{preparedOf, liveNode, edgeFrom, edgeTo, edgeCost, firstLoad}
+use Rattle.forms.specs.Limits.{maxDemand}
 
 -- an edge is stored at place e: with its ends and its cost where it is used, and else as a loop of cost 0 at the root
 pub record Stored (e : ℕ) (used : Bool) (a b k : ℕ) (from to cost from' to' cost' : List ℕ) : Type 0 where
@@ -21,57 +22,57 @@ pub record Stored (e : ℕ) (used : Bool) (a b k : ℕ) (from to cost from' to' 
 
 -- the edges below k are laid
 pub record EdgesLaid (s : List ℕ) (k : ℕ) (from to cost : List ℕ) : Type 0 where
-  pub from-long : length from ≡ 464
-  pub to-long : length to ≡ 464
-  pub cost-long : length cost ≡ 464
-  pub from-is : (e : ℕ) → e < k → at from e ≡ edgeFrom s e
-  pub to-is : (e : ℕ) → e < k → at to e ≡ edgeTo s e
-  pub cost-is : (e : ℕ) → e < k → at cost e ≡ edgeCost s e
+  pub from-long : length from ≡ mostEdges
+  pub to-long : length to ≡ mostEdges
+  pub cost-long : length cost ≡ mostEdges
+  pub from-is : (e : ℕ) → e < k → nth from e ≡ edgeFrom s e
+  pub to-is : (e : ℕ) → e < k → nth to e ≡ edgeTo s e
+  pub cost-is : (e : ℕ) → e < k → nth cost e ≡ edgeCost s e
 
 -- how many of the prepared reads pass each vertex, and each arc
 pub record VerticesCounted (s counts : List ℕ) : Type 0 where
-  pub each : (v : ℕ) → v < vertexCount s → at counts v ≡ readsThrough (vert v) (preparedOf s)
+  pub each : (v : ℕ) → v < vertexCount s → nth counts v ≡ readsThrough (vert v) (preparedOf s)
 
 pub record ArcsCounted (s counts : List ℕ) : Type 0 where
-  pub each : (a : ℕ) → a < arcCount s → at counts a ≡ readsThrough (arcItem s a) (preparedOf s)
+  pub each : (a : ℕ) → a < arcCount s → nth counts a ≡ readsThrough (arcItem s a) (preparedOf s)
 
 -- the first loads of the edges below k are laid
 pub record LoadsLaid (s : List ℕ) (k : ℕ) (load : List ℕ) : Type 0 where
-  pub long : length load ≡ 464
-  pub is : (e : ℕ) → e < k → at load e ≡ firstLoad s e
+  pub long : length load ≡ mostEdges
+  pub is : (e : ℕ) → e < k → nth load e ≡ firstLoad s e
 
 -- of the nodes below k it is laid whether they are live
 pub record LiveLaid (s : List ℕ) (k : ℕ) (live : List Bool) : Type 0 where
-  pub long : length live ≡ 129
+  pub long : length live ≡ mostNodes
   pub is : (u : ℕ) → u < k → liveAt live u ≡ liveNode s u
 
 -- what it takes to sum the loads at the nodes: ends are nodes, and loads are low
 pub record Summable (N E : ℕ) (from to load : List ℕ) : Type 0 where
-  pub few-nodes : N ≤ 129
-  pub few-edges : E ≤ 464
-  pub from-node : (e : ℕ) → e < E → at from e < N
-  pub to-node : (e : ℕ) → e < E → at to e < N
-  pub low : (e : ℕ) → e < E → at load e ≤ 1_000_000
+  pub few-nodes : N ≤ mostNodes
+  pub few-edges : E ≤ mostEdges
+  pub from-node : (e : ℕ) → e < E → nth from e < N
+  pub to-node : (e : ℕ) → e < E → nth to e < N
+  pub low : (e : ℕ) → e < E → nth load e ≤ maxDemand
 
 -- `into` and `out` hold what enters and what leaves each node on the edges below e
 pub record Tallied (N e : ℕ) (from to load into out : List ℕ) : Type 0 where
-  pub into-long : length into ≡ 129
-  pub out-long : length out ≡ 129
-  pub entered : (u : ℕ) → u < N → at into u ≡ entering to load e u
-  pub left : (u : ℕ) → u < N → at out u ≡ leaving from load e u
+  pub into-long : length into ≡ mostNodes
+  pub out-long : length out ≡ mostNodes
+  pub entered : (u : ℕ) → u < N → nth into u ≡ entering to load e u
+  pub left : (u : ℕ) → u < N → nth out u ≡ leaving from load e u
 
 -- of what enters and what leaves each node below k, the difference stands where there is more of it, and 0 on the other side
 pub record Netted (k : ℕ) (into out surplus deficit : List ℕ) : Type 0 where
-  pub surplus-long : length surplus ≡ 129
-  pub deficit-long : length deficit ≡ 129
-  pub balance : (u : ℕ) → u < k → at surplus u + at out u ≡ at deficit u + at into u
-  pub apart : (u : ℕ) → u < k → (at surplus u ≡ 0) ⊎ (at deficit u ≡ 0)
-  pub surplus-kept : (u : ℕ) → k ≤ u → at surplus u ≡ at into u
-  pub deficit-kept : (u : ℕ) → k ≤ u → at deficit u ≡ at out u
+  pub surplus-long : length surplus ≡ mostNodes
+  pub deficit-long : length deficit ≡ mostNodes
+  pub balance : (u : ℕ) → u < k → nth surplus u + nth out u ≡ nth deficit u + nth into u
+  pub apart : (u : ℕ) → u < k → (nth surplus u ≡ 0) ⊎ (nth deficit u ≡ 0)
+  pub surplus-kept : (u : ℕ) → k ≤ u → nth surplus u ≡ nth into u
+  pub deficit-kept : (u : ℕ) → k ≤ u → nth deficit u ≡ nth out u
 
 -- What each node has too much of, or too little: with what leaves it a node's surplus is its deficit with what enters it, and one of the two is 0.
 pub record Balanced (N E : ℕ) (from to load surplus deficit : List ℕ) : Type 0 where
-  pub surplus-long : length surplus ≡ 129
-  pub deficit-long : length deficit ≡ 129
-  pub balance : (u : ℕ) → u < N → at surplus u + leaving from load E u ≡ at deficit u + entering to load E u
-  pub apart : (u : ℕ) → u < N → (at surplus u ≡ 0) ⊎ (at deficit u ≡ 0)
+  pub surplus-long : length surplus ≡ mostNodes
+  pub deficit-long : length deficit ≡ mostNodes
+  pub balance : (u : ℕ) → u < N → nth surplus u + leaving from load E u ≡ nth deficit u + entering to load E u
+  pub apart : (u : ℕ) → u < N → (nth surplus u ≡ 0) ⊎ (nth deficit u ≡ 0)

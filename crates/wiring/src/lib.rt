@@ -3,6 +3,10 @@ use forms::Graph;
 use forms::bytes::be16;
 use forms::bytes::be32;
 use forms::bytes::wide;
+use network::EDGES;
+use network::NODES;
+use reads::ROW;
+use reads::ROWS;
 ghost use mathlib.Core.Path.{_≡_};
 ghost use mathlib.Core.Bool.{_&&_, cond};
 ghost use lib.Dec.{ltb};
@@ -12,8 +16,8 @@ ghost use Rattle.mathematics.specs.Reach.{useful};
 ghost use Rattle.forms.specs.GraphForm.{vertexCount, arcCount};
 ghost use Rattle.forms.specs.GraphOf.{graphOf};
 ghost use Rattle.forms.specs.GraphReads.{Reads};
-ghost use Rattle.reads.specs.ReadTable.{Leaves};
-ghost use Rattle.network.specs.Network.{at};
+ghost use Rattle.reads.specs.ReadTable.{Leaves, tableRows};
+ghost use Rattle.network.specs.Network.{nth, mostNodes, mostEdges};
 ghost use Rattle.paths.specs.Slots.{preparedOf, plainSlots, allSlots};
 ghost use Rattle.reach.specs.Reached.{Tells};
 ghost use Rattle.wiring.specs.Lay.{Stored, EdgesLaid, VerticesCounted, ArcsCounted, LoadsLaid, LiveLaid, Summable, Tallied, Netted, Balanced};
@@ -31,11 +35,11 @@ fn store_edge(
     a: usize,
     b: usize,
     k: u64,
-    from: &mut [usize; 464],
-    to: &mut [usize; 464],
-    cost: &mut [u64; 464],
+    from: &mut [usize; EDGES],
+    to: &mut [usize; EDGES],
+    cost: &mut [u64; EDGES],
 )
-    requires { ⌜ e < 464 ⌝ }
+    requires { ⌜ e < mostEdges ⌝ }
     ensures { λ _. ⌜ Stored e used a b k (now (from .entry)) (now (to .entry)) (now (cost .entry)) (now (from .exit)) (now (to .exit)) (now (cost .exit)) ⌝ }
 {
     if used {
@@ -52,10 +56,10 @@ fn store_edge(
 // From the in side of each useful vertex to its out side.
 fn lay_vertices(
     s: &[u8],
-    kept: &[bool; 64],
-    from: &mut [usize; 464],
-    to: &mut [usize; 464],
-    cost: &mut [u64; 464],
+    kept: &[bool; Graph::MAX_VERTICES],
+    from: &mut [usize; EDGES],
+    to: &mut [usize; EDGES],
+    cost: &mut [u64; EDGES],
 )
     requires { ⌜ Reads (now s) × Tells (now s) (useful (graphOf (now s))) (now kept) ⌝ }
     requires { ⌜ EdgesLaid (now s) 0 (now from) (now to) (now cost) ⌝ }
@@ -72,10 +76,10 @@ fn lay_vertices(
 // From the out side of an arc's tail to the in side of its head, where both are useful; from the last arc down.
 fn lay_arcs(
     s: &[u8],
-    kept: &[bool; 64],
-    from: &mut [usize; 464],
-    to: &mut [usize; 464],
-    cost: &mut [u64; 464],
+    kept: &[bool; Graph::MAX_VERTICES],
+    from: &mut [usize; EDGES],
+    to: &mut [usize; EDGES],
+    cost: &mut [u64; EDGES],
 )
     requires { ⌜ Reads (now s) × Tells (now s) (useful (graphOf (now s))) (now kept) ⌝ }
     requires { ⌜ EdgesLaid (now s) (vertexCount (now s)) (now from) (now to) (now cost) ⌝ }
@@ -99,10 +103,10 @@ fn lay_arcs(
 // From the root to the in side of each useful start, at the opening price; from the last vertex down.
 fn lay_openings(
     s: &[u8],
-    kept: &[bool; 64],
-    from: &mut [usize; 464],
-    to: &mut [usize; 464],
-    cost: &mut [u64; 464],
+    kept: &[bool; Graph::MAX_VERTICES],
+    from: &mut [usize; EDGES],
+    to: &mut [usize; EDGES],
+    cost: &mut [u64; EDGES],
 )
     requires { ⌜ Reads (now s) × Tells (now s) (useful (graphOf (now s))) (now kept) ⌝ }
     requires { ⌜ EdgesLaid (now s) (vertexCount (now s) + arcCount (now s)) (now from) (now to) (now cost) ⌝ }
@@ -124,10 +128,10 @@ fn lay_openings(
 // From the out side of each useful end back to the root.
 fn lay_closings(
     s: &[u8],
-    kept: &[bool; 64],
-    from: &mut [usize; 464],
-    to: &mut [usize; 464],
-    cost: &mut [u64; 464],
+    kept: &[bool; Graph::MAX_VERTICES],
+    from: &mut [usize; EDGES],
+    to: &mut [usize; EDGES],
+    cost: &mut [u64; EDGES],
 )
     requires { ⌜ Reads (now s) × Tells (now s) (useful (graphOf (now s))) (now kept) ⌝ }
     requires { ⌜ EdgesLaid (now s) (2 * vertexCount (now s) + arcCount (now s)) (now from) (now to) (now cost) ⌝ }
@@ -147,12 +151,12 @@ fn lay_closings(
 // From the in side of each prepared read's first vertex to the out side of its last.
 fn lay_reads(
     s: &[u8],
-    rows: &[[u8; 64]; 16],
-    lens: &[usize; 16],
+    rows: &[[u8; ROW]; ROWS],
+    lens: &[usize; ROWS],
     count: usize,
-    from: &mut [usize; 464],
-    to: &mut [usize; 464],
-    cost: &mut [u64; 464],
+    from: &mut [usize; EDGES],
+    to: &mut [usize; EDGES],
+    cost: &mut [u64; EDGES],
 )
     requires { ⌜ Reads (now s) × Leaves (now rows) (now lens) count (preparedOf (now s)) ⌝ }
     requires { ⌜ EdgesLaid (now s) (plainSlots (now s)) (now from) (now to) (now cost) ⌝ }
@@ -181,13 +185,13 @@ fn lay_reads(
 // All edges: vertices, arcs, openings, closings, reads.
 pub fn lay_edges(
     s: &[u8],
-    kept: &[bool; 64],
-    rows: &[[u8; 64]; 16],
-    lens: &[usize; 16],
+    kept: &[bool; Graph::MAX_VERTICES],
+    rows: &[[u8; ROW]; ROWS],
+    lens: &[usize; ROWS],
     count: usize,
-    from: &mut [usize; 464],
-    to: &mut [usize; 464],
-    cost: &mut [u64; 464],
+    from: &mut [usize; EDGES],
+    to: &mut [usize; EDGES],
+    cost: &mut [u64; EDGES],
 )
     requires { ⌜ Reads (now s) × Tells (now s) (useful (graphOf (now s))) (now kept) ⌝ }
     requires { ⌜ Leaves (now rows) (now lens) count (preparedOf (now s)) ⌝ }
@@ -212,7 +216,7 @@ fn owed(demand: usize, reads: usize) -> u64
 }
 
 // On the edge of a vertex lies its rest.
-fn load_vertices(s: &[u8], passed: &[usize; 64], load: &mut [u64; 464])
+fn load_vertices(s: &[u8], passed: &[usize; Graph::MAX_VERTICES], load: &mut [u64; EDGES])
     requires { ⌜ Reads (now s) × VerticesCounted (now s) (now passed) ⌝ }
     requires { ⌜ LoadsLaid (now s) 0 (now load) ⌝ }
     ensures { λ _. ⌜ LoadsLaid (now (s .entry)) (vertexCount (now (s .entry))) (now (load .exit)) ⌝ }
@@ -227,7 +231,7 @@ fn load_vertices(s: &[u8], passed: &[usize; 64], load: &mut [u64; 464])
 }
 
 // On the edge of an arc lies its rest.
-fn load_arcs(s: &[u8], passed: &[usize; 256], load: &mut [u64; 464])
+fn load_arcs(s: &[u8], passed: &[usize; Graph::MAX_ARCS], load: &mut [u64; EDGES])
     requires { ⌜ Reads (now s) × ArcsCounted (now s) (now passed) ⌝ }
     requires { ⌜ LoadsLaid (now s) (vertexCount (now s)) (now load) ⌝ }
     ensures { λ _. ⌜ LoadsLaid (now (s .entry)) (vertexCount (now (s .entry)) + arcCount (now (s .entry))) (now (load .exit)) ⌝ }
@@ -251,8 +255,8 @@ fn unit(e: usize, plain: usize) -> u64
 }
 
 // On an opening and on a closing lies nothing, and on each prepared read one unit.
-fn load_ends(s: &[u8], count: usize, load: &mut [u64; 464])
-    requires { ⌜ Reads (now s) × (count ≡ length (preparedOf (now s))) × (count ≤ 16) ⌝ }
+fn load_ends(s: &[u8], count: usize, load: &mut [u64; EDGES])
+    requires { ⌜ Reads (now s) × (count ≡ length (preparedOf (now s))) × (count ≤ tableRows) ⌝ }
     requires { ⌜ LoadsLaid (now s) (vertexCount (now s) + arcCount (now s)) (now load) ⌝ }
     ensures { λ _. ⌜ LoadsLaid (now (s .entry)) (allSlots (now (s .entry))) (now (load .exit)) ⌝ }
 {
@@ -269,12 +273,12 @@ fn load_ends(s: &[u8], count: usize, load: &mut [u64; 464])
 // All first loads.
 pub fn lay_loads(
     s: &[u8],
-    vertices: &[usize; 64],
-    arcs: &[usize; 256],
+    vertices: &[usize; Graph::MAX_VERTICES],
+    arcs: &[usize; Graph::MAX_ARCS],
     count: usize,
-    load: &mut [u64; 464],
+    load: &mut [u64; EDGES],
 )
-    requires { ⌜ Reads (now s) × (count ≡ length (preparedOf (now s))) × (count ≤ 16) ⌝ }
+    requires { ⌜ Reads (now s) × (count ≡ length (preparedOf (now s))) × (count ≤ tableRows) ⌝ }
     requires { ⌜ VerticesCounted (now s) (now vertices) × ArcsCounted (now s) (now arcs) ⌝ }
     requires { ⌜ LoadsLaid (now s) 0 (now load) ⌝ }
     ensures { λ _. ⌜ LoadsLaid (now (s .entry)) (allSlots (now (s .entry))) (now (load .exit)) ⌝ }
@@ -285,9 +289,9 @@ pub fn lay_loads(
 }
 
 // The root and both sides of each useful vertex are live.
-pub fn lay_live(s: &[u8], kept: &[bool; 64], live: &mut [bool; 129])
+pub fn lay_live(s: &[u8], kept: &[bool; Graph::MAX_VERTICES], live: &mut [bool; NODES])
     requires { ⌜ Reads (now s) × Tells (now s) (useful (graphOf (now s))) (now kept) ⌝ }
-    requires { ⌜ length (now live) ≡ 129 ⌝ }
+    requires { ⌜ length (now live) ≡ mostNodes ⌝ }
     ensures { λ _. ⌜ LiveLaid (now (s .entry)) (2 * vertexCount (now (s .entry)) + 1) (now (live .exit)) ⌝ }
 {
     let n = wide(s[Graph::AT_VERTICES]);
@@ -304,11 +308,11 @@ pub fn lay_live(s: &[u8], kept: &[bool; 64], live: &mut [bool; 129])
 fn tally(
     nodes: usize,
     edges: usize,
-    from: &[usize; 464],
-    to: &[usize; 464],
-    load: &[u64; 464],
-    into: &mut [u64; 129],
-    out: &mut [u64; 129],
+    from: &[usize; EDGES],
+    to: &[usize; EDGES],
+    load: &[u64; EDGES],
+    into: &mut [u64; NODES],
+    out: &mut [u64; NODES],
 )
     requires { ⌜ Summable nodes edges (now from) (now to) (now load) ⌝ }
     requires { ⌜ Tallied nodes 0 (now from) (now to) (now load) (now into) (now out) ⌝ }
@@ -325,8 +329,8 @@ fn tally(
 }
 
 // Takes the lesser of what enters and what leaves off both, at each node.
-fn net(nodes: usize, surplus: &mut [u64; 129], deficit: &mut [u64; 129])
-    requires { ⌜ nodes ≤ 129 ⌝ }
+fn net(nodes: usize, surplus: &mut [u64; NODES], deficit: &mut [u64; NODES])
+    requires { ⌜ nodes ≤ mostNodes ⌝ }
     requires { ⌜ Netted 0 (now surplus) (now deficit) (now surplus) (now deficit) ⌝ }
     ensures { λ _. ⌜ Netted nodes (now (surplus .entry)) (now (deficit .entry)) (now (surplus .exit)) (now (deficit .exit)) ⌝ }
 {
@@ -347,11 +351,11 @@ fn net(nodes: usize, surplus: &mut [u64; 129], deficit: &mut [u64; 129])
 pub fn lay_balance(
     nodes: usize,
     edges: usize,
-    from: &[usize; 464],
-    to: &[usize; 464],
-    load: &[u64; 464],
-    surplus: &mut [u64; 129],
-    deficit: &mut [u64; 129],
+    from: &[usize; EDGES],
+    to: &[usize; EDGES],
+    load: &[u64; EDGES],
+    surplus: &mut [u64; NODES],
+    deficit: &mut [u64; NODES],
 )
     requires { ⌜ Summable nodes edges (now from) (now to) (now load) ⌝ }
     requires { ⌜ Tallied nodes 0 (now from) (now to) (now load) (now surplus) (now deficit) ⌝ }

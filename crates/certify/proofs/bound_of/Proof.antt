@@ -1,4 +1,5 @@
 -- `certify::bound_of` sums the parts of vertices and arcs, with the prepared reads counted, which is the bound.
+use Rattle.reads.proofs.TableRows.{blank-table}
 use Rattle.certify.proofs.CertifyLawsCount.{counts-none}
 use Rattle.certify.proofs.CertifyLawsTotal.{sums-are-bound}
 use borrow.Author.Needs.{needs}
@@ -6,7 +7,7 @@ use Rattle.certify.proofs.bound_of.Statement.{statement}
 use Rattle.certify.proofs.bound_of.Tie as tie
 
 load-reads-requires : tie.Need-load-reads-requires
-load-reads-requires c κs = search needs
+load-reads-requires c κs = (c .before .before .before .before .pre .0, blank-table)
 
 prepare-reads-requires : tie.Need-prepare-reads-requires
 prepare-reads-requires c κs = search needs

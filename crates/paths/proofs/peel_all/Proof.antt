@@ -10,12 +10,14 @@ use Rattle.paths.proofs.PeelLawsLinks.{slots-few}
 use Rattle.paths.proofs.PeelLawsOne.{ready-sizes}
 use Rattle.paths.proofs.PeelLawsAll.{peel-step, loaded-less, peel-end, peel-start, step-room, Between}
 use borrow.Author.Needs.{needs}
+use Rattle.network.specs.Network.{mostNodes}
+use Rattle.reads.specs.ReadTable.{rowLength}
 use Rattle.paths.proofs.peel_all.Statement.{statement}
 use Rattle.paths.proofs.peel_all.Tie as tie
 
 abbrev Inv-loop : tie.InvT-loop
 Inv-loop s vertices plain edges from to head next rows lens load₀ paths₀ sizes₀ weights₀ nodes way₀ row₀ count₀ h₀ load paths sizes weights way row count h =
-    Between s edges from to load₀ load paths sizes weights count h × (length way ≡ 129) × (length row ≡ 64)
+    Between s edges from to load₀ load paths sizes weights count h × (length way ≡ mostNodes) × (length row ≡ rowLength)
 
 abbrev μ-loop : tie.MeasureT-loop
 μ-loop s vertices plain edges from to head next rows lens load₀ paths₀ sizes₀ weights₀ nodes way₀ row₀ count₀ h₀ load paths sizes weights way row count h =

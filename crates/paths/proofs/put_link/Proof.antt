@@ -1,13 +1,13 @@
 -- `paths::put_link` meets its contract. Assumes nothing.
 use Prim.Native.Nat.{_<_, _-_}
 use native.Mathlib.Omega.{arith}
-use Rattle.reads.specs.ReadTable.{RowHolds}
+use Rattle.reads.specs.ReadTable.{RowHolds, rowLength}
 use Rattle.paths.proofs.PeelLawsPath.{vertex-room, read-holds, read-room, put-vertex, put-none, put-read}
 use Rattle.paths.proofs.put_link.Statement.{statement}
 use Rattle.paths.proofs.put_link.Tie as tie
 
 -- a vertex's edge: there is room for one vertex
-vertex-inside : (c : tie.Then1) → c .before .before .args .r < 64
+vertex-inside : (c : tie.Then1) → c .before .before .args .r < rowLength
 vertex-inside c =
     let start = c .before .before in
     omega (arith, start .pre .1 .2, vertex-room _ _ _ _ _ (start .pre .0) (start .args .e) (c .if1 .taken))

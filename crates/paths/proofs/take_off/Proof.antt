@@ -3,7 +3,7 @@ use Prim.Native.Nat.{_≤_, _<_, _-_}
 use native.Mathlib.Omega.{arith}
 use mathlib.Core.Path.{_≡_}
 use lib.ListN.{take}
-use Rattle.network.specs.Network.{at}
+use Rattle.network.specs.Network.{nth}
 use Rattle.paths.specs.Peel.{TakenOff}
 use Rattle.paths.proofs.PeelLaws.{taken-none, walk-carries, walk-fits, walk-turn}
 use borrow.Author.Needs.{needs}
@@ -24,10 +24,10 @@ module _ (c : tie.In-loop Inv-loop μ-loop) where
   abbrev pre : tie.Start Inv-loop μ-loop
   pre = c .before .before
 
-  carries : (at (pre .args .way .now) (c .before .loop .k) < pre .args .edges) × (pre .args .amount ≤ at (pre .args .load .now) (at (pre .args .way .now) (c .before .loop .k)))
+  carries : (nth (pre .args .way .now) (c .before .loop .k) < pre .args .edges) × (pre .args .amount ≤ nth (pre .args .load .now) (nth (pre .args .way .now) (c .before .loop .k)))
   carries = walk-carries _ _ _ _ _ _ _ _ (pre .pre .0 .1) (pre .pre .1) (c .loop-test .taken)
 
-  fits : pre .args .amount ≤ at (c .before .loop .load) (at (pre .args .way .now) (c .before .loop .k))
+  fits : pre .args .amount ≤ nth (c .before .loop .load) (nth (pre .args .way .now) (c .before .loop .k))
   fits = walk-fits _ _ _ _ _ _ _ _ (pre .pre .0 .1) (pre .pre .1) (c .loop-test .taken) _ (c .before .loop .inv .1)
 
 mul-e : tie.Need-mul-e Inv-loop μ-loop

@@ -4,7 +4,7 @@ use native.Mathlib.Omega.{arith}
 use mathlib.Core.Path.{_≡_, refl}
 use mathlib.Core.Logic.{inl, inr, ⊎-elim}
 use lib.ListN.{length, take, length-set}
-use Rattle.network.specs.Network.{at}
+use Rattle.network.specs.Network.{nth, mostNodes, mostEdges}
 use Rattle.paths.specs.Peel.{NextLoaded}
 use Rattle.paths.proofs.PeelLaws.{next-edge, Going, way-on, going-start, going-turn, going-home}
 use borrow.Author.Needs.{needs}
@@ -12,14 +12,14 @@ use Rattle.paths.proofs.walk.Statement.{statement}
 use Rattle.paths.proofs.walk.Tie as tie
 
 abbrev Inv-loop : tie.InvT-loop
-Inv-loop nodes edges from to head next load first way₀ len₀ amount₀ u₀ way len amount u = (length way ≡ 129) × Going nodes edges from to load (take len way) len amount u
+Inv-loop nodes edges from to head next load first way₀ len₀ amount₀ u₀ way len amount u = (length way ≡ mostNodes) × Going nodes edges from to load (take len way) len amount u
 
 abbrev μ-loop : tie.MeasureT-loop
 μ-loop nodes edges from to head next load first way₀ len₀ amount₀ u₀ way len amount u = nodes - len
 
 -- the first edge
 begins : (c : tie.Start Inv-loop μ-loop) →
-    (c .args .first < c .args .edges) × (at (c .args .from .now) (c .args .first) ≡ 0) × (1 ≤ at (c .args .load .now) (c .args .first))
+    (c .args .first < c .args .edges) × (nth (c .args .from .now) (c .args .first) ≡ 0) × (1 ≤ nth (c .args .load .now) (c .args .first))
 begins c = c .pre .1 .1 .1 .0 .some (c .args .first) refl
 
 -- the next edge
@@ -38,7 +38,7 @@ module _ (c : tie.After-next-loaded Inv-loop μ-loop) where
   edge : NextLoaded (start .args .edges) (start .args .from .now) (start .args .load .now) (c .before .before .loop .u) (c .next-loaded .result - 1 + 1)
   edge = next-edge _ _ _ _ _ (c .next-loaded .ensures) found
 
-  inside : (c .next-loaded .result - 1 < 464) × (c .before .before .loop .len < 129)
+  inside : (c .next-loaded .result - 1 < mostEdges) × (c .before .before .loop .len < mostNodes)
   inside = (omega (arith, edge .some _ refl .0, start .pre .0 .1), omega (arith, going .lower (c .before .loop-test .taken), going .node, start .pre .0 .0))
 
 element-write-way : tie.Need-element-write-way Inv-loop μ-loop

@@ -2,7 +2,7 @@
 use borrow.Author.Needs.{needs}
 use native.Mathlib.Omega.{arith}
 use mathlib.Core.Path.{sym, _∙_}
-use Rattle.reach.proofs.ReachLawsLacking.{ask-nothing, ask-lies, ask-lacks, marked-lies}
+use Rattle.reach.proofs.ReachLawsLacking.{ask-nothing, ask-lies, ask-lacks, reachable-lies}
 use Rattle.reach.proofs.arc_lacks.Statement.{statement}
 use Rattle.reach.proofs.arc_lacks.Tie as tie
 use Rattle.reach.proofs.arc_lacks.Reads as reads
@@ -39,10 +39,10 @@ lies-requires : tie.Need-lies-requires
 lies-requires c κs = omega (arith, c .before .before .before .before .before .before .before .pre .0 .reads .arcs .header .few-vertices, c .before .before .before .before .before .before .before .pre .1 .inside, c .before .before .before .before .before .before .before .pre .1 .rises, c .wide2 .ensures .0, c .before .before .wide .ensures .0)
 
 returns-2 : tie.Need-returns-2
-returns-2 c = ask-lies _ _ (marked-lies (c .before .before .before .before .before .before .before .before .before .pre .0) (c .before .before .before .before .wide .ensures .0) (c .before .before .wide2 .ensures .0) (omega (arith, c .before .before .before .before .before .before .before .before .before .pre .1 .inside, c .before .before .before .before .before .before .before .before .before .pre .1 .rises)) (c .before .before .before .before .before .before .before .before .before .pre .1 .inside) (c .before .lies .ensures) (c .if2 .taken))
+returns-2 c = ask-lies _ _ (reachable-lies (c .before .before .before .before .before .before .before .before .before .pre .0) (c .before .before .before .before .wide .ensures .0) (c .before .before .wide2 .ensures .0) (omega (arith, c .before .before .before .before .before .before .before .before .before .pre .1 .inside, c .before .before .before .before .before .before .before .before .before .pre .1 .rises)) (c .before .before .before .before .before .before .before .before .before .pre .1 .inside) (c .before .lies .ensures) (c .if2 .taken))
 
 returns-3 : tie.Need-returns-3
-returns-3 c = ask-lacks _ _ (λ z. c .before .before .before .before .before .before .if1 .left (c .before .before .before .before .before .before .before .be32 .ensures .0 ∙ z)) (marked-lies (c .before .before .before .before .before .before .before .before .before .pre .0) (c .before .before .before .before .wide .ensures .0) (c .before .before .wide2 .ensures .0) (omega (arith, c .before .before .before .before .before .before .before .before .before .pre .1 .inside, c .before .before .before .before .before .before .before .before .before .pre .1 .rises)) (c .before .before .before .before .before .before .before .before .before .pre .1 .inside) (c .before .lies .ensures) (c .if2 .left))
+returns-3 c = ask-lacks _ _ (λ z. c .before .before .before .before .before .before .if1 .left (c .before .before .before .before .before .before .before .be32 .ensures .0 ∙ z)) (reachable-lies (c .before .before .before .before .before .before .before .before .before .pre .0) (c .before .before .before .before .wide .ensures .0) (c .before .before .wide2 .ensures .0) (omega (arith, c .before .before .before .before .before .before .before .before .before .pre .1 .inside, c .before .before .before .before .before .before .before .before .before .pre .1 .rises)) (c .before .before .before .before .before .before .before .before .before .pre .1 .inside) (c .before .lies .ensures) (c .if2 .left))
 
 pub arc-lacks-spec : {M : Type 1} → statement M
 arc-lacks-spec =

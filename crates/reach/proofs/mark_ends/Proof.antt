@@ -7,12 +7,13 @@ use mathlib.Core.Bool.{false}
 use lib.Dec.{eqb}
 use Rattle.mathematics.specs.Graph.{isEnd}
 use Rattle.forms.specs.GraphOf.{graphOf}
+use Rattle.forms.specs.Limits.{maxVertices}
 use Rattle.reach.proofs.ReachLaws.{Filled, fill-none, fill-more, end-is}
 use Rattle.reach.proofs.mark_ends.Statement.{statement}
 use Rattle.reach.proofs.mark_ends.Tie as tie
 
 abbrev Inv-loop : tie.InvT-loop
-Inv-loop s n reaching₀ v₀ reaching v = (v ≤ n) × Filled 64 false (isEnd (graphOf s)) reaching v
+Inv-loop s n reaching₀ v₀ reaching v = (v ≤ n) × Filled maxVertices false (isEnd (graphOf s)) reaching v
 
 abbrev μ-loop : tie.MeasureT-loop
 μ-loop s n reaching₀ v₀ reaching v = n - v

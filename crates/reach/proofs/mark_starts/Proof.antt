@@ -7,12 +7,13 @@ use mathlib.Core.Bool.{false}
 use lib.Dec.{eqb}
 use Rattle.mathematics.specs.Graph.{isStart}
 use Rattle.forms.specs.GraphOf.{graphOf}
+use Rattle.forms.specs.Limits.{maxVertices}
 use Rattle.reach.proofs.ReachLaws.{Filled, fill-none, fill-more, start-is}
 use Rattle.reach.proofs.mark_starts.Statement.{statement}
 use Rattle.reach.proofs.mark_starts.Tie as tie
 
 abbrev Inv-loop : tie.InvT-loop
-Inv-loop s n reached₀ v₀ reached v = (v ≤ n) × Filled 64 false (isStart (graphOf s)) reached v
+Inv-loop s n reached₀ v₀ reached v = (v ≤ n) × Filled maxVertices false (isStart (graphOf s)) reached v
 
 abbrev μ-loop : tie.MeasureT-loop
 μ-loop s n reached₀ v₀ reached v = n - v

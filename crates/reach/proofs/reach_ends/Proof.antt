@@ -4,7 +4,7 @@ use Prim.Native.Nat.{_+_, _*_, _≤_, _-_}
 use native.Mathlib.Omega.{arith}
 use mathlib.Core.Path.{_≡_, refl}
 use Rattle.forms.specs.GraphForm.{arcCount}
-use Rattle.reach.specs.Reached.{Counted}
+use Rattle.reach.specs.Reached.{FormSizes}
 use Rattle.reach.proofs.ReachLaws.{record-whole, tail-read, head-read, tail-low, head-low}
 use Rattle.reach.proofs.ReachLawsPass.{Back, back-begins, back-over, back-on, back-ends}
 use Rattle.reach.proofs.reach_ends.Statement.{statement}
@@ -16,7 +16,7 @@ use Rattle.forms.proofs.bytes.be16.Reads as be16-reads
 use Rattle.forms.proofs.bytes.wide.Reads as wide-reads
 
 abbrev Inv-loop : tie.InvT-loop
-Inv-loop s reaching₀ n base a₀ reaching a = Counted s n (arcCount s) × (base ≡ 13 + 5 * n) × (a ≤ arcCount s) × Back s a reaching
+Inv-loop s reaching₀ n base a₀ reaching a = FormSizes s n (arcCount s) × (base ≡ 13 + 5 * n) × (a ≤ arcCount s) × Back s a reaching
 
 abbrev μ-loop : tie.MeasureT-loop
 μ-loop s reaching₀ n base a₀ reaching a = a

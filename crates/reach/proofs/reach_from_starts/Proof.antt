@@ -3,7 +3,7 @@ use borrow.Author.Needs.{needs}
 use Prim.Native.Nat.{_+_, _*_, _≤_, _-_}
 use native.Mathlib.Omega.{arith}
 use mathlib.Core.Path.{_≡_}
-use Rattle.reach.specs.Reached.{Counted}
+use Rattle.reach.specs.Reached.{FormSizes}
 use Rattle.reach.proofs.ReachLaws.{record-whole, tail-read, head-read, tail-low, head-low}
 use Rattle.reach.proofs.ReachLawsPass.{Ahead, ahead-begins, ahead-over, ahead-on, ahead-ends}
 use Rattle.reach.proofs.reach_from_starts.Statement.{statement}
@@ -15,7 +15,7 @@ use Rattle.forms.proofs.bytes.be16.Reads as be16-reads
 use Rattle.forms.proofs.bytes.wide.Reads as wide-reads
 
 abbrev Inv-loop : tie.InvT-loop
-Inv-loop s reached₀ n m base a₀ reached a = Counted s n m × (base ≡ 13 + 5 * n) × (a ≤ m) × Ahead s a reached
+Inv-loop s reached₀ n m base a₀ reached a = FormSizes s n m × (base ≡ 13 + 5 * n) × (a ≤ m) × Ahead s a reached
 
 abbrev μ-loop : tie.MeasureT-loop
 μ-loop s reached₀ n m base a₀ reached a = m - a

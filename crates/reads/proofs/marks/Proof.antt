@@ -4,14 +4,14 @@ use native.Mathlib.Omega.{arith}
 use mathlib.Core.Path.{_≡_}
 use mathlib.Core.Bool.{false}
 use lib.ListN.{length, getD}
-use Rattle.reads.specs.ReadTable.{gone}
+use Rattle.reads.specs.ReadTable.{gone, tableRows}
 use Rattle.reads.proofs.TableRows.{fill-turn}
 use borrow.Author.Needs.{needs}
 use Rattle.reads.proofs.marks.Statement.{statement}
 use Rattle.reads.proofs.marks.Tie as tie
 
 abbrev Inv-loop : tie.InvT-loop
-Inv-loop rows lens count marks₀ i₀ marks i = (i ≤ count) × (length marks ≡ 16) × ((k : ℕ) → k < i → getD marks k false ≡ gone rows lens count k)
+Inv-loop rows lens count marks₀ i₀ marks i = (i ≤ count) × (length marks ≡ tableRows) × ((k : ℕ) → k < i → getD marks k false ≡ gone rows lens count k)
 
 abbrev μ-loop : tie.MeasureT-loop
 μ-loop rows lens count marks₀ i₀ marks i = count - i

@@ -4,14 +4,14 @@ use Prim.Native.Nat.{_+_, _*_, _-_, _≤_}
 use native.Mathlib.Omega.{arith}
 use mathlib.Core.Path.{_≡_, refl}
 use Rattle.forms.specs.GraphForm.{vertexCount, arcCount}
-use Rattle.reach.specs.Reached.{Counted}
+use Rattle.reach.specs.Reached.{FormSizes}
 use Rattle.wiring.specs.Lay.{EdgesLaid}
 use borrow.Author.Needs.{needs}
 use Rattle.wiring.proofs.lay_closings.Statement.{statement}
 use Rattle.wiring.proofs.lay_closings.Tie as tie
 
 abbrev Inv-loop : tie.InvT-loop
-Inv-loop s kept from₀ to₀ cost₀ n m v₀ from to cost v = Counted s n m × (v ≤ n) × EdgesLaid s (2 * n + m + v) from to cost
+Inv-loop s kept from₀ to₀ cost₀ n m v₀ from to cost v = FormSizes s n m × (v ≤ n) × EdgesLaid s (2 * n + m + v) from to cost
 
 abbrev μ-loop : tie.MeasureT-loop
 μ-loop s kept from₀ to₀ cost₀ n m v₀ from to cost v = n - v

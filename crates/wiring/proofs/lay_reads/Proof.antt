@@ -6,14 +6,14 @@ use Prim.Native.Nat.{_+_, _*_, _-_, _≤_}
 use native.Mathlib.Omega.{arith}
 use mathlib.Core.Path.{_≡_, refl, sym, ap, _∙_}
 use Rattle.forms.specs.GraphForm.{vertexCount, arcCount}
-use Rattle.reach.specs.Reached.{Counted}
+use Rattle.reach.specs.Reached.{FormSizes}
 use Rattle.wiring.specs.Lay.{EdgesLaid}
 use borrow.Author.Needs.{needs}
 use Rattle.wiring.proofs.lay_reads.Statement.{statement}
 use Rattle.wiring.proofs.lay_reads.Tie as tie
 
 abbrev Inv-loop : tie.InvT-loop
-Inv-loop s rows lens count from₀ to₀ cost₀ n m i₀ from to cost i = Counted s n m × (i ≤ count) × EdgesLaid s (3 * n + m + i) from to cost
+Inv-loop s rows lens count from₀ to₀ cost₀ n m i₀ from to cost i = FormSizes s n m × (i ≤ count) × EdgesLaid s (3 * n + m + i) from to cost
 
 abbrev μ-loop : tie.MeasureT-loop
 μ-loop s rows lens count from₀ to₀ cost₀ n m i₀ from to cost i = count - i

@@ -4,14 +4,14 @@ use Prim.Native.Nat.{_+_, _-_, _≤_}
 use native.Mathlib.Omega.{arith}
 use mathlib.Core.Path.{_≡_, sym}
 use Rattle.forms.specs.GraphForm.{vertexCount, arcCount}
-use Rattle.reach.specs.Reached.{Counted}
+use Rattle.reach.specs.Reached.{FormSizes}
 use Rattle.wiring.specs.Lay.{LoadsLaid}
 use borrow.Author.Needs.{needs}
 use Rattle.wiring.proofs.load_arcs.Statement.{statement}
 use Rattle.wiring.proofs.load_arcs.Tie as tie
 
 abbrev Inv-loop : tie.InvT-loop
-Inv-loop s passed load₀ n m e₀ load e = Counted s n m × (n ≤ e) × (e ≤ n + m) × LoadsLaid s e load
+Inv-loop s passed load₀ n m e₀ load e = FormSizes s n m × (n ≤ e) × (e ≤ n + m) × LoadsLaid s e load
 
 abbrev μ-loop : tie.MeasureT-loop
 μ-loop s passed load₀ n m e₀ load e = n + m - e

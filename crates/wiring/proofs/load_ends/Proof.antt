@@ -4,14 +4,14 @@ use Rattle.paths.specs.Slots.{allSlots}
 use Prim.Native.Nat.{ℕ, _+_, _*_, _-_, _≤_}
 use native.Mathlib.Omega.{arith}
 use mathlib.Core.Path.{_≡_, refl, sym, ap₂}
-use Rattle.reach.specs.Reached.{Counted}
+use Rattle.reach.specs.Reached.{FormSizes}
 use Rattle.wiring.specs.Lay.{LoadsLaid}
 use borrow.Author.Needs.{needs}
 use Rattle.wiring.proofs.load_ends.Statement.{statement}
 use Rattle.wiring.proofs.load_ends.Tie as tie
 
 abbrev Inv-loop : tie.InvT-loop
-Inv-loop s count load₀ n m plain e₀ load e = Counted s n m × (plain ≡ 3 * n + m) × (n + m ≤ e) × (e ≤ plain + count) × LoadsLaid s e load
+Inv-loop s count load₀ n m plain e₀ load e = FormSizes s n m × (plain ≡ 3 * n + m) × (n + m ≤ e) × (e ≤ plain + count) × LoadsLaid s e load
 
 abbrev μ-loop : tie.MeasureT-loop
 μ-loop s count load₀ n m plain e₀ load e = plain + count - e

@@ -3,6 +3,7 @@ use Prim.Native.Nat.{ℕ, _<_}
 use native.Mathlib.Omega.{arith}
 use Rattle.paths.proofs.PeelLawsTable.{grown-collected}
 use borrow.Author.Needs.{needs}
+use Rattle.network.specs.Network.{mostEdges}
 use Rattle.paths.proofs.collect.insert.Statement.{statement}
 use Rattle.paths.proofs.collect.insert.Tie as tie
 
@@ -20,7 +21,7 @@ module _ (c : tie.Then1) where
   there : spot < start .args .count
   there = c .before .find .ensures .same (c .if1 .taken) .0
 
-  inside : spot < 464
+  inside : spot < mostEdges
   inside = omega (arith, there, start .pre .1 .0 .counted)
 
 mul-weights : tie.Need-mul-weights

@@ -2,8 +2,8 @@
 use Prim.Native.Nat.{_≤_, _-_}
 use mathlib.Core.Path.{_≡_, refl}
 use lib.ListN.{take, drop}
-use Rattle.network.specs.Network.{at}
-use Rattle.paths.specs.Peel.{pathAt, orderOf}
+use Rattle.network.specs.Network.{nth}
+use Rattle.paths.specs.Peel.{pathInRow, orderOf}
 use Rattle.paths.proofs.PeelLawsTable.{order-short, order-before, order-after, order-turn, order-begins, order-end}
 use borrow.Author.Needs.{needs}
 use Rattle.paths.proofs.collect.order.Statement.{statement}
@@ -11,8 +11,8 @@ use Rattle.paths.proofs.collect.order.Tie as tie
 
 abbrev Inv-loop : tie.InvT-loop
 Inv-loop row len paths sizes i size k₀ k =
-    (size ≡ at sizes i) × (k ≤ size) × (k ≤ len) ×
-    (orderOf (take len row) (pathAt paths sizes i) ≡ orderOf (drop k (take len row)) (drop k (pathAt paths sizes i)))
+    (size ≡ nth sizes i) × (k ≤ size) × (k ≤ len) ×
+    (orderOf (take len row) (pathInRow paths sizes i) ≡ orderOf (drop k (take len row)) (drop k (pathInRow paths sizes i)))
 
 abbrev μ-loop : tie.MeasureT-loop
 μ-loop row len paths sizes i size k₀ k = len - k
