@@ -1,16 +1,15 @@
 -- Laws of the test of a guess: a turn of each loop, the sums at the nodes, that what stands the test carries everything, and what a guess that does not is
 -- set back to.
-use Prim.Native.Nat.{ℕ, zero, suc, _+_, _*_, _≤_, _<_}
+use Prim.Native.Nat.{ℕ, _+_, _*_, _≤_, _<_}
 use native.Mathlib.Omega.{arith}
-use native.Mathlib.Numerals.{add-one}
-use mathlib.Core.Path.{_≡_, refl, sym, ap, _∙_}
+use mathlib.Core.Path.{_≡_, sym, ap, _∙_}
 use mathlib.Core.List.{List}
 use mathlib.Core.Bool.{Bool, true, false}
-use mathlib.Core.Logic.{_⊎_, inl, inr, ⊎-elim, _≢_}
+use mathlib.Core.Logic.{⊎-elim}
 use borrow.Author.Count.{below-more}
 use lib.ListN.{length, set, length-set, replicate, length-replicate, getD-replicate}
 use Rattle.network.specs.Network.{nth, sumTo, share, leaving, entering, base, mostNodes, mostEdges, mostMoved, Keys, Shape, Waiting, Carried, Ends, EdgeStands, EdgesStand, Summable, Tallied, Comparable, Even, Movable, LoadsStand, Stands, Emptied, Levelled}
-use Rattle.network.proofs.NetworkLaws.{same-or-not, nth-set, sum-term, share-same, share-other, share-most}
+use Rattle.network.proofs.NetworkLaws.{nth-set, sum-more, sum-part, sum-low, sum-term, share-same, share-other, share-most}
 use Rattle.network.proofs.NetworkLawsRaise.{slacks-near}
 
 -- what follows from a test that said no
@@ -34,26 +33,9 @@ edges-more k from to cost load mark S h = record { each = below-more _ _ (S .eac
 
 -- ---- sums
 
-pub sum-more : (k : ℕ) (f : ℕ → ℕ) → sumTo (k + 1) f ≡ sumTo k f + f k
-sum-more k f = ap (λ j. sumTo j f) (add-one k)
-
--- the first terms are no more than all
-pub sum-part : (k n : ℕ) (f : ℕ → ℕ) → k ≤ n → sumTo k f ≤ sumTo n f
-sum-part k zero f l = let e : k ≡ 0 = omega arith in omega (arith, ap (λ j. sumTo j f) e)
-sum-part k (suc n) f l = go (same-or-not k (suc n)) (λ l. sum-part k n f l)
-  where
-    go : (k ≡ suc n) ⊎ (k ≢ suc n) → (k ≤ n → sumTo k f ≤ sumTo n f) → sumTo k f ≤ sumTo n f + f n
-    go (inl e) more = omega (arith, ap (λ j. sumTo j f) e)
-    go (inr ne) more = omega (arith, more (omega arith))
-
 -- the first u and one more fit
 pub total-fits : (u N : ℕ) (f : ℕ → ℕ) → u < N → sumTo N f ≤ mostMoved → sumTo u f + f u ≤ mostMoved
 total-fits u N f l few = omega (arith, sum-more u f, sum-part (u + 1) N f (omega arith))
-
--- of k numbers that are no more than what there is to move
-sum-low : (k : ℕ) (f : ℕ → ℕ) → ((v : ℕ) → v < k → f v ≤ mostMoved) → sumTo k f ≤ k * mostMoved
-sum-low zero f h = omega arith
-sum-low (suc k) f h = omega (arith, sum-low k f (λ v l. h v (omega arith)), h k (omega arith))
 
 -- one end: `key` is `from` or `to`, and xs holds what is summed so far
 added : (N e : ℕ) (key load xs : List ℕ) → length xs ≡ mostNodes → N ≤ mostNodes → nth key e < N →
@@ -71,7 +53,7 @@ added N e key load xs long few node each u h =
 sum-fits : (N E e : ℕ) (key load xs : List ℕ) → ((d : ℕ) → d < E → nth load d ≤ mostMoved) → e ≤ E →
     ((u : ℕ) → u < N → nth xs u ≡ sumTo e (λ d. share u (nth key d) (nth load d))) → (u : ℕ) → u < N → nth xs u ≤ e * mostMoved
 sum-fits N E e key load xs low l each u h =
-    omega (arith, each u h, sum-low e (λ d. share u (nth key d) (nth load d)) (λ d b. omega (arith, share-most u (nth key d) (nth load d), low d (omega arith))))
+    omega (arith, each u h, sum-low mostMoved e (λ d. share u (nth key d) (nth load d)) (λ d b. omega (arith, share-most u (nth key d) (nth load d), low d (omega arith))))
 
 pub tally-none : (N : ℕ) (from to load into out : List ℕ) → length into ≡ mostNodes → length out ≡ mostNodes → ((u : ℕ) → u < N → nth into u ≡ 0) →
     ((u : ℕ) → u < N → nth out u ≡ 0) → Tallied N 0 from to load into out

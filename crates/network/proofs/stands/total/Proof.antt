@@ -3,7 +3,8 @@ use Prim.Native.Nat.{_≤_, _-_}
 use native.Mathlib.Omega.{arith}
 use mathlib.Core.Path.{_≡_, ap, _∙_}
 use Rattle.network.specs.Network.{nth, sumTo}
-use Rattle.network.proofs.NetworkLawsStand.{sum-more, total-fits}
+use Rattle.network.proofs.NetworkLawsStand.{total-fits}
+use Rattle.network.proofs.NetworkLaws.{sum-more}
 use borrow.Author.Needs.{needs}
 use Rattle.network.proofs.stands.total.Statement.{statement}
 use Rattle.network.proofs.stands.total.Tie as tie
