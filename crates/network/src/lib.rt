@@ -533,6 +533,16 @@ fn level(nodes: usize, mark: &mut [u64; NODES])
     }
 }
 
+// Nothing is moved, as it was before the guess.
+fn set_back(nodes: usize, edges: usize, load: &mut [u64; EDGES], mark: &mut [u64; NODES])
+    requires { ⌜ (nodes ≤ mostNodes) × (edges ≤ mostEdges) ⌝ }
+    requires { ⌜ PerEdge (now load) × PerNode (now mark) ⌝ }
+    ensures { λ _. ⌜ Emptied edges (now (load .exit)) × Levelled nodes (now (mark .exit)) ⌝ }
+{
+    empty(edges, load);
+    level(nodes, mark);
+}
+
 // Guesses loads and marks, and tells whether they stand the test.
 fn guess_stands(
     nodes: usize,
@@ -611,8 +621,7 @@ pub fn carry_all(
     ) {
         return;
     }
-    empty(edges, load);
-    level(nodes, mark);
+    set_back(nodes, edges, load, mark);
     let mut headin = [0usize; NODES];
     let mut nextin = [0usize; EDGES];
     chain(nodes, edges, to, &mut headin, &mut nextin);

@@ -16,17 +16,17 @@ guess-stands-requires c κs = let p = c .before .before .before .before .before 
 returns : tie.Need-returns
 returns c = let g = c .before .guess-stands .ensures in (stands-carried _ _ _ _ _ _ (c .before .before .before .before .before .before .before .before .before .before .before .pre .0) _ _ _ _ (g .0 (c .if1 .taken)), (g .1 .0 .long, g .1 .1 .long))
 
-empty-requires : tie.Need-empty-requires
-empty-requires c κs = search needs
-
-level-requires : tie.Need-level-requires
-level-requires c κs = search needs
+set-back-requires : tie.Need-set-back-requires
+set-back-requires c κs = search needs
 
 chain-requires-2 : tie.Need-chain-requires-2
-chain-requires-2 c κs = keys-to _ _ _ _ _ _ (c .before .before .before .before .before .before .before .before .before .before .before .before .before .before .before .before .before .pre .0) _ _ (length-replicate {A = ℕ} mostNodes 0) (length-replicate {A = ℕ} mostEdges 0)
+chain-requires-2 c κs = keys-to _ _ _ _ _ _ (c .before .before .before .before .before .before .before .before .before .before .before .before .before .before .before .before .pre .0) _ _ (length-replicate {A = ℕ} mostNodes 0) (length-replicate {A = ℕ} mostEdges 0)
 
 carry-slowly-requires : tie.Need-carry-slowly-requires
-carry-slowly-requires c κs = let p = c .before .before .before .before .before .before .before .before .before .before .before .before .before .before .before .before .before .before .before .before .before .before .before .before .before .before .pre in (p .0, (c .before .before .before .before .before .before .before .before .before .before .before .before .before .before .before .before .before .before .before .before .before .before .before .chain .ensures, (c .before .before .before .before .before .before .before .before .chain2 .ensures, waiting-again _ _ _ _ _ _ _ _ _ (p .1) (c .before .before .before .before .before .before .before .before .before .before .before .before .before .empty .ensures) (c .before .before .before .before .before .before .before .before .before .before .before .level .ensures))))
+carry-slowly-requires c κs =
+    let p = c .before .before .before .before .before .before .before .before .before .before .before .before .before .before .before .before .before .before .before .before .before .before .before .before .before .pre in
+    let z = c .before .before .before .before .before .before .before .before .before .before .before .set-back .ensures in
+    (p .0, (c .before .before .before .before .before .before .before .before .before .before .before .before .before .before .before .before .before .before .before .before .before .before .chain .ensures, (c .before .before .before .before .before .before .before .before .chain2 .ensures, waiting-again _ _ _ _ _ _ _ _ _ (p .1) (z .0) (z .1))))
 
 returns-2 : tie.Need-returns-2
 returns-2 c = search needs
@@ -38,8 +38,7 @@ carry-all-spec =
     chain-requires
     guess-stands-requires
     returns
-    empty-requires
-    level-requires
+    set-back-requires
     chain-requires-2
     carry-slowly-requires
     returns-2)
