@@ -117,7 +117,6 @@ fn exchange(
 
 // Lets edges with a slack below 0 enter the tree until there is none. False where `fuel` of them are not enough.
 fn improve(
-    nodes: usize,
     edges: usize,
     fuel: usize,
     from: &[usize; EDGES],
@@ -126,18 +125,16 @@ fn improve(
     by: &mut [u16; NODES],
     up: &mut [bool; NODES],
     flow: &mut [u64; NODES],
+    parent: &mut [u16; NODES],
+    depth: &mut [u16; NODES],
+    child: &mut [u16; NODES],
+    after: &mut [u16; NODES],
+    before: &mut [u16; NODES],
     mark: &mut [u64; NODES],
 ) -> bool
     requires { ⌜ PerNode (now mark) ⌝ }
     ensures { λ _. ⌜ PerNode (now (mark .exit)) ⌝ }
 {
-    let mut parent = [0u16; NODES];
-    let mut depth = [1u16; NODES];
-    depth[0] = 0;
-    let mut child = [0u16; NODES];
-    let mut after = [0u16; NODES];
-    let mut before = [0u16; NODES];
-    list_all(nodes, &mut child, &mut after, &mut before);
     let block = block_of(edges);
     let mut start: usize = 0;
     let mut left = fuel;
@@ -154,24 +151,16 @@ fn improve(
             by,
             up,
             flow,
-            &mut parent,
-            &depth,
-            &mut child,
-            &mut after,
-            &mut before,
+            parent,
+            depth,
+            child,
+            after,
+            before,
         );
         if part.node == 0 {
             return false;
         }
-        move_part(
-            part.node,
-            part.change,
-            &parent,
-            &child,
-            &after,
-            &mut depth,
-            mark,
-        );
+        move_part(part.node, part.change, parent, child, after, depth, mark);
         start = entry.next;
         left -= 1;
     }
@@ -214,7 +203,29 @@ fn best_tree(
 {
     set_mark(0, wrapping_add_u64(mark[0], LIFT), mark);
     hang_all(nodes, arrive, leave, surplus, deficit, up, flow, mark);
-    let best = improve(nodes, edges, fuel, from, to, cost, by, up, flow, mark);
+    let mut child = [0u16; NODES];
+    let mut after = [0u16; NODES];
+    let mut before = [0u16; NODES];
+    list_all(nodes, &mut child, &mut after, &mut before);
+    let mut parent = [0u16; NODES];
+    let mut depth = [1u16; NODES];
+    depth[0] = 0;
+    let best = improve(
+        edges,
+        fuel,
+        from,
+        to,
+        cost,
+        by,
+        up,
+        flow,
+        &mut parent,
+        &mut depth,
+        &mut child,
+        &mut after,
+        &mut before,
+        mark,
+    );
     lower_marks(nodes, mark);
     best
 }

@@ -7,16 +7,10 @@ use Rattle.pivot.proofs.improve.Statement.{statement}
 use Rattle.pivot.proofs.improve.Tie as tie
 
 abbrev Inv-loop : tie.InvT-loop
-Inv-loop nodes edges fuel from to cost by₀ up₀ flow₀ mark₀ parent₀ depth₀ child₀ after₀ before₀ block start₀ left₀ by up flow mark parent depth child after before start left = (left ≤ fuel) × PerNode mark
+Inv-loop edges fuel from to cost by₀ up₀ flow₀ parent₀ depth₀ child₀ after₀ before₀ mark₀ block start₀ left₀ by up flow parent depth child after before mark start left = (left ≤ fuel) × PerNode mark
 
 abbrev μ-loop : tie.MeasureT-loop
-μ-loop nodes edges fuel from to cost by₀ up₀ flow₀ mark₀ parent₀ depth₀ child₀ after₀ before₀ block start₀ left₀ by up flow mark parent depth child after before start left = left
-
-array-write-depth : tie.Need-array-write-depth Inv-loop μ-loop
-array-write-depth c = search needs
-
-list-all-requires : tie.Need-list-all-requires Inv-loop μ-loop
-list-all-requires c κs = search needs
+μ-loop edges fuel from to cost by₀ up₀ flow₀ parent₀ depth₀ child₀ after₀ before₀ mark₀ block start₀ left₀ by up flow parent depth child after before mark start left = left
 
 block-of-requires : tie.Need-block-of-requires Inv-loop μ-loop
 block-of-requires c κs = search needs
@@ -57,8 +51,6 @@ improve-spec =
     (tie.spec
     Inv-loop
     μ-loop
-    array-write-depth
-    list-all-requires
     block-of-requires
     loop-holds
     best-entry-requires
