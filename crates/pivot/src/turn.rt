@@ -86,7 +86,7 @@ fn climb_deeper(
     }
 }
 
-// The edge that leaves: of those that lose on the way round, one with the least flow. `NO_LIMIT` where there is none.
+// The edge that leaves: of those that lose on the way round, one with the least flow, which is `NO_LIMIT` where none loses; and where the sides meet.
 pub fn find_least(
     u: usize,
     v: usize,
@@ -236,7 +236,8 @@ struct Visit {
     waiting: usize,
 }
 
-// The node that comes behind w: the first that hangs on it, and else the one after it in its list, and else the last that waits; 0 where none does.
+// What is visited next: the first node that hangs on the one at hand (`down`), and else the one after it in its list (`along`), and else the last that
+// waits; the root, which is in no part, where none does.
 fn next_visit(visit: Visit, down: usize, along: usize, stack: &mut [u16; NODES]) -> Visit {
     let top = node(visit.waiting);
     if down == 0 {
