@@ -379,6 +379,10 @@ module _ (s : List ℕ) (r : Reads s) where
             subst (λ x. T (inUse s x)) (sym (ap (linkAt s) q ∙ at-reading s (e - plainSlots s))) tt
 
     module _ (from to cost first : List ℕ) (laid : EdgesLaid s (allSlots s) from to cost) (loads : LoadsLaid s (allSlots s) first) where
+      -- the first loads are low
+      pub loads-low : (e : ℕ) → e < allSlots s → nth first e ≤ maxDemand
+      loads-low e h = omega (arith, loads .is e h, low-load e h)
+
       -- What summing the loads at the nodes asks for.
       pub summable : Summable nodesOf (allSlots s) from to first
       summable =
@@ -390,7 +394,7 @@ module _ (s : List ℕ) (r : Reads s) where
               from-node = λ e h. omega (arith, laid .from-is e h, ends-live e h .0 .0);
               to-node = λ e h. omega (arith, laid .to-is e h, ends-live e h .1 .0);
             };
-            low = λ e h. omega (arith, loads .is e h, low-load e h);
+            low = λ e h. omega (arith, loads-low e h);
           }
 
       -- a node that is not live is no edge's end
