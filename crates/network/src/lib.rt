@@ -164,6 +164,68 @@ fn relax_back(
     }
 }
 
+// Looks at all edges of u, the node settled last.
+fn relax(
+    nodes: usize,
+    edges: usize,
+    from: &[usize; EDGES],
+    to: &[usize; EDGES],
+    cost: &[u64; EDGES],
+    load: &[u64; EDGES],
+    mark: &[u64; NODES],
+    headout: &[usize; NODES],
+    nextout: &[usize; EDGES],
+    headin: &[usize; NODES],
+    nextin: &[usize; EDGES],
+    source: usize,
+    u: usize,
+    count: usize,
+    dist: &mut [u64; NODES],
+    via: &mut [usize; NODES],
+    rank: &[usize; NODES],
+)
+    requires { ⌜ Lanes nodes edges (now from) (now to) (now cost) (now mark) ⌝ }
+    requires { ⌜ Chained nodes edges (now from) (now headout) (now nextout) ⌝ }
+    requires { ⌜ Chained nodes edges (now to) (now headin) (now nextin) ⌝ }
+    requires { ⌜ Growing nodes edges (now from) (now to) (now cost) (now load) (now mark) source u edges edges count (now dist) (now via) (now rank) ⌝ }
+    ensures { λ _. ⌜ Growing nodes edges (now (from .entry)) (now (to .entry)) (now (cost .entry)) (now (load .entry)) (now (mark .entry)) source u 0 0 count (now (dist .exit)) (now (via .exit)) (now (rank .entry)) ⌝ }
+{
+    relax_out(
+        nodes,
+        edges,
+        from,
+        to,
+        cost,
+        load,
+        mark,
+        headout,
+        nextout,
+        source,
+        u,
+        count,
+        dist,
+        via,
+        rank,
+    );
+    relax_back(
+        nodes,
+        edges,
+        from,
+        to,
+        cost,
+        load,
+        mark,
+        headin,
+        nextin,
+        source,
+        u,
+        count,
+        dist,
+        via,
+        rank,
+    );
+}
+
 // The nearest node with a deficit, by the search of Dijkstra on slacks: the nearest node is settled, its edges are looked at, and so on.
 fn search(
     nodes: usize,
@@ -194,7 +256,7 @@ fn search(
     let mut u = source;
     let mut count: usize = 1;
     while deficit[u] == 0 {
-        relax_out(
+        relax(
             nodes,
             edges,
             from,
@@ -204,21 +266,6 @@ fn search(
             mark,
             headout,
             nextout,
-            source,
-            u,
-            count,
-            dist,
-            via,
-            rank,
-        );
-        relax_back(
-            nodes,
-            edges,
-            from,
-            to,
-            cost,
-            load,
-            mark,
             headin,
             nextin,
             source,

@@ -37,28 +37,23 @@ mul-if1 c = omega arith
 element-copy-out-if1 : tie.Need-element-copy-out-if1 Inv-loop μ-loop
 element-copy-out-if1 c = omega arith
 
-relax-out-requires : tie.Need-relax-out-requires Inv-loop μ-loop
-relax-out-requires c κs =
+relax-requires : tie.Need-relax-requires Inv-loop μ-loop
+relax-requires c κs =
     let p = c .before .before .before .before .before .before .pre in
-    (p .0 .lanes, (p .1 .0, c .before .before .before .before .before .loop .inv .0))
-
-relax-back-requires : tie.Need-relax-back-requires Inv-loop μ-loop
-relax-back-requires c κs =
-    let p = c .before .before .before .before .before .before .before .before .before .before .pre in
-    (p .0 .lanes, (p .1 .1 .0, c .before .before .before .relax-out .ensures))
+    (p .0 .lanes, (p .1 .0, (p .1 .1 .0, c .before .before .before .before .before .loop .inv .0)))
 
 nearest-requires : tie.Need-nearest-requires Inv-loop μ-loop
-nearest-requires c κs = c .before .before .before .before .before .before .before .before .before .before .before .before .before .pre .0 .lanes .few-nodes
+nearest-requires c κs = c .before .before .before .before .before .before .before .before .before .pre .0 .lanes .few-nodes
 
 -- a node is found, and not all were settled
-node : (c : tie.After-nearest Inv-loop μ-loop) → (c .nearest .result < mostNodes) × (c .before .before .before .before .before .before .before .before .before .before .before .before .before .loop .count < c .before .before .before .before .before .before .before .before .before .before .before .before .before .before .args .nodes) × (c .before .before .before .before .before .before .before .before .before .before .before .before .before .before .args .nodes ≤ mostNodes)
+node : (c : tie.After-nearest Inv-loop μ-loop) → (c .nearest .result < mostNodes) × (c .before .before .before .before .before .before .before .before .before .loop .count < c .before .before .before .before .before .before .before .before .before .before .args .nodes) × (c .before .before .before .before .before .before .before .before .before .before .args .nodes ≤ mostNodes)
 node c =
-    let p = c .before .before .before .before .before .before .before .before .before .before .before .before .before .before .pre in
+    let p = c .before .before .before .before .before .before .before .before .before .before .pre in
     let few = p .0 .lanes .few-nodes in
-    let i = c .before .before .before .before .before .before .before .before .before .before .before .before .before .loop .inv in
-    let z = c .before .before .before .before .before .before .before .before .before .before .before .if1 .taken in
-    let r = search-node _ _ _ _ _ _ _ _ _ (p .0) _ _ _ _ _ _ _ _ i z (c .before .before .before .relax-back .ensures) (c .nearest .ensures) in
-    let m = search-room _ _ _ _ _ _ _ _ _ (p .0) _ _ _ _ _ _ _ _ i z (c .before .before .before .relax-back .ensures) (c .nearest .ensures) in
+    let i = c .before .before .before .before .before .before .before .before .before .loop .inv in
+    let z = c .before .before .before .before .before .before .before .if1 .taken in
+    let r = search-node _ _ _ _ _ _ _ _ _ (p .0) _ _ _ _ _ _ _ _ i z (c .before .before .before .relax .ensures) (c .nearest .ensures) in
+    let m = search-room _ _ _ _ _ _ _ _ _ (p .0) _ _ _ _ _ _ _ _ i z (c .before .before .before .relax .ensures) (c .nearest .ensures) in
     (omega arith, m, few)
 
 mul-rank-2 : tie.Need-mul-rank-2 Inv-loop μ-loop
@@ -75,7 +70,7 @@ loop-less c = omega (arith, node c)
 
 loop-again : tie.Need-loop-again Inv-loop μ-loop
 loop-again c =
-    search-again _ _ _ _ _ _ _ _ _ (c .before .before .before .before .before .before .before .before .before .before .before .before .before .before .pre .0) _ _ _ _ _ _ _ _ (c .before .before .before .before .before .before .before .before .before .before .before .before .before .loop .inv) (c .before .before .before .before .before .before .before .before .before .before .before .if1 .taken) (c .before .before .before .relax-back .ensures) (c .nearest .ensures)
+    search-again _ _ _ _ _ _ _ _ _ (c .before .before .before .before .before .before .before .before .before .before .pre .0) _ _ _ _ _ _ _ _ (c .before .before .before .before .before .before .before .before .before .loop .inv) (c .before .before .before .before .before .before .before .if1 .taken) (c .before .before .before .relax .ensures) (c .nearest .ensures)
 
 returns : tie.Need-returns Inv-loop μ-loop
 returns c =
@@ -94,8 +89,7 @@ search-spec =
     loop-holds
     mul-if1
     element-copy-out-if1
-    relax-out-requires
-    relax-back-requires
+    relax-requires
     nearest-requires
     mul-rank-2
     element-write-rank-2
