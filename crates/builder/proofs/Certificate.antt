@@ -50,11 +50,12 @@ use Rattle.checker.specs.Acceptable.{Ascending, MarksFit}
 use Rattle.checker.proofs.Ascending.{ascending-distinct}
 use Rattle.checker.proofs.Completeness.{shown-form-accepted}
 use Rattle.certify.proofs.CertifyLawsSlack.{low-difference, held-difference, held-sum-less-held, not-below}
-use Rattle.network.specs.Network.{at, sumTo, base, reach}
+use Rattle.network.specs.Network.{nth, sumTo, base, span, highest}
 use Rattle.paths.specs.Slots.{preparedOf, plainSlots, allSlots, insideSlot, acrossSlot, openingSlot, closingSlot, linkAt, inUse, edgeCost, copiesOf}
 use Rattle.paths.specs.Peel.{Ascend, Peeled}
 use Rattle.builder.specs.Finish.{Settled, arcWorth, priceFrom, heldMark, finalMarks}
 use Rattle.network.proofs.NetworkLaws.{sum-same}
+use Rattle.paths.proofs.SlotKinds
 use Rattle.wiring.proofs.SlotLaws
 
 -- ---- numbers held with something added
@@ -71,8 +72,8 @@ held-order a b l h =
 no-difference : (a b : ℕ) → a ≡ b → subℕ a b ≡ pos 0
 no-difference a b e = low-difference a b (omega arith) ∙ ap pos (let z : a - b ≡ 0 = omega arith in z)
 
-in-range : (x : ℕ) → x ≤ base + reach → base ≤ x + reach → InRange (subℕ x base)
-in-range x h k = (held-order 0 x base (omega arith), held-order x 4_000_000_000 base (omega arith))
+in-range : (x : ℕ) → x ≤ highest → base ≤ x + span → InRange (subℕ x base)
+in-range x h k = (held-order 0 x base (omega arith), held-order x (2 * base) base (omega arith))
 
 -- k copies at c each
 times-pos : (k c : ℕ) → times whole k (pos c) ≡ pos (k * c)
@@ -114,13 +115,13 @@ module _ (s : List ℕ) (right : Reads s) (mark added full : List ℕ) (S : Sett
 
   -- the mark of a node as a price
   abbrev p : ℕ → ℤ
-  p u = subℕ (at mark u) base
+  p u = subℕ (nth mark u) base
 
   abbrev low : ℤ
-  low = subℕ (base - reach) base
+  low = subℕ (base - span) base
 
   abbrev high : ℤ
-  high = subℕ (base + reach) base
+  high = subℕ highest base
 
   abbrev M : Marks ℤ
   M = marksOf (graphOf s) p low high
@@ -129,7 +130,7 @@ module _ (s : List ℕ) (right : Reads s) (mark added full : List ℕ) (S : Sett
 
   link-cost : (e : ℕ) → e < plainSlots s → T (inUse s (linkAt s e)) → linkCost whole (graphOf s) (linkAt s e) ≡ pos (edgeCost s e)
   unfolding graphOf
-  link-cost e h u = kind (SlotLaws.slot-kind s e h)
+  link-cost e h u = kind (SlotKinds.slot-kind s e h)
     where
       across-cost : (a : ℕ) → a < arcCount s → e ≡ acrossSlot s a → edgeCost s e ≡ arcCost s (arcAt s a)
       across-cost a b q =
@@ -148,20 +149,20 @@ module _ (s : List ℕ) (right : Reads s) (mark added full : List ℕ) (S : Sett
           SlotLaws.used-cost s e u ∙
           simp (le-ltb e (vertexCount s) (omega arith), le-ltb e (vertexCount s + arcCount s) (omega arith), le-ltb e (2 * vertexCount s + arcCount s) (omega arith))
 
-      kind : SlotLaws.SlotKind s e → linkCost whole (graphOf s) (linkAt s e) ≡ pos (edgeCost s e)
-      kind (SlotLaws.is-inside v b q l) = ap (linkCost whole (graphOf s)) l ∙ ap pos (sym (SlotLaws.used-cost s e u ∙ simp (lt-ltb e (vertexCount s) (omega arith))))
-      kind (SlotLaws.is-across a b q l) =
+      kind : SlotKinds.SlotKind s e → linkCost whole (graphOf s) (linkAt s e) ≡ pos (edgeCost s e)
+      kind (SlotKinds.is-inside v b q l) = ap (linkCost whole (graphOf s)) l ∙ ap pos (sym (SlotLaws.used-cost s e u ∙ simp (lt-ltb e (vertexCount s) (omega arith))))
+      kind (SlotKinds.is-across a b q l) =
           ap (linkCost whole (graphOf s)) l ∙
           (cost-own whole (graphOf s .arcs) (arcOf s a) (arcTail s (arcAt s a)) (arcHead s (arcAt s a)) (g .once) (arc-among s a b) (joins-own (arcOf s a)) ∙
           ap pos (sym (across-cost a b q)))
-      kind (SlotLaws.is-opening v b q l) = ap (linkCost whole (graphOf s)) l ∙ opening-cost v b q
-      kind (SlotLaws.is-closing v b q l) = ap (linkCost whole (graphOf s)) l ∙ ap pos (sym (closing-cost v b q))
+      kind (SlotKinds.is-opening v b q l) = ap (linkCost whole (graphOf s)) l ∙ opening-cost v b q
+      kind (SlotKinds.is-closing v b q l) = ap (linkCost whole (graphOf s)) l ∙ ap pos (sym (closing-cost v b q))
 
   link-slack : (e : ℕ) → e < plainSlots s → T (inUse s (linkAt s e)) →
-      slack whole p (edgeOf whole (graphOf s) (linkAt s e)) ≡ subℕ (edgeCost s e + at mark (linkFrom (linkAt s e))) (at mark (linkTo 0 (linkAt s e)))
+      slack whole p (edgeOf whole (graphOf s) (linkAt s e)) ≡ subℕ (edgeCost s e + nth mark (linkFrom (linkAt s e))) (nth mark (linkTo 0 (linkAt s e)))
   link-slack e h u =
       ap (λ c. sub whole (c +ℤ p (linkFrom (linkAt s e))) (p (linkTo 0 (linkAt s e)))) (link-cost e h u) ∙
-      held-sum-less-held (edgeCost s e) (at mark (linkFrom (linkAt s e))) (at mark (linkTo 0 (linkAt s e))) base
+      held-sum-less-held (edgeCost s e) (nth mark (linkFrom (linkAt s e))) (nth mark (linkTo 0 (linkAt s e))) base
 
   -- a link in use has no slack below 0
   edge-holds : (l : Link) (e : ℕ) → e < plainSlots s → linkAt s e ≡ l → T (inUse s l) → Le whole (pos 0) (slack whole p (edgeOf whole (graphOf s) l))
@@ -170,12 +171,12 @@ module _ (s : List ℕ) (right : Reads s) (mark added full : List ℕ) (S : Sett
       (λ w. subst (Le whole (pos 0)) (sym (link-slack e h w)) (difference-holds _ _ (S .slacks e h w))) u
 
   -- and none at all where it has an added load
-  edge-tight : (l : Link) (e : ℕ) → e < plainSlots s → linkAt s e ≡ l → 1 ≤ at added e → slack whole p (edgeOf whole (graphOf s) l) ≡ pos 0
+  edge-tight : (l : Link) (e : ℕ) → e < plainSlots s → linkAt s e ≡ l → 1 ≤ nth added e → slack whole p (edgeOf whole (graphOf s) l) ≡ pos 0
   edge-tight l e h q k =
       subst (λ k. slack whole p (edgeOf whole (graphOf s) k) ≡ pos 0) q
       (link-slack e h (S .added-in-use e h k) ∙ no-difference _ _ (sym (S .tight e h k)))
 
-  added-used : (l : Link) (e : ℕ) → e < plainSlots s → linkAt s e ≡ l → 1 ≤ at added e → T (inUse s l)
+  added-used : (l : Link) (e : ℕ) → e < plainSlots s → linkAt s e ≡ l → 1 ≤ nth added e → T (inUse s l)
   added-used l e h q k = subst (λ k. T (inUse s k)) q (S .added-in-use e h k)
 
   -- ---- the marks show no slack below 0
@@ -183,20 +184,20 @@ module _ (s : List ℕ) (right : Reads s) (mark added full : List ℕ) (S : Sett
   vertex-below : (v : ℕ) → v < length (graphOf s .vertices) → v < vertexCount s
   vertex-below v h = subst (λ k. v < k) (vertices-length s) h
 
-  side-near : (u : ℕ) → Node (graphOf s) u → (at mark u ≤ base + reach) × (base ≤ at mark u + reach)
+  side-near : (u : ℕ) → Node (graphOf s) u → (nth mark u ≤ highest) × (base ≤ nth mark u + span)
   side-near u n = pick (node-cases (graphOf s) g u n)
     where
-      pick : (u ≡ 0) ⊎ ((v : ℕ) × T (useful (graphOf s) v) × ((u ≡ inNode v) ⊎ (u ≡ outNode v))) → (at mark u ≤ base + reach) × (base ≤ at mark u + reach)
-      pick (inl z) = let e : at mark u ≡ base = ap (at mark) z ∙ S .at-root in (omega arith, omega arith)
-      pick (inr (v, t, inl e)) = subst (λ x. (at mark x ≤ base + reach) × (base ≤ at mark x + reach)) (sym e) (S .in-near v t)
-      pick (inr (v, t, inr e)) = subst (λ x. (at mark x ≤ base + reach) × (base ≤ at mark x + reach)) (sym e) (S .out-near v t)
+      pick : (u ≡ 0) ⊎ ((v : ℕ) × T (useful (graphOf s) v) × ((u ≡ inNode v) ⊎ (u ≡ outNode v))) → (nth mark u ≤ highest) × (base ≤ nth mark u + span)
+      pick (inl z) = let e : nth mark u ≡ base = ap (nth mark) z ∙ S .at-root in (omega arith, omega arith)
+      pick (inr (v, t, inl e)) = subst (λ x. (nth mark x ≤ highest) × (base ≤ nth mark x + span)) (sym e) (S .in-near v t)
+      pick (inr (v, t, inr e)) = subst (λ x. (nth mark x ≤ highest) × (base ≤ nth mark x + span)) (sym e) (S .out-near v t)
 
   root-nil : p 0 ≡ pos 0
-  root-nil = no-difference (at mark 0) base (S .at-root)
+  root-nil = no-difference (nth mark 0) base (S .at-root)
 
   across-used : (u v : ℕ) → T (hasArc (graphOf s .arcs) u v) → (a : ℕ) × (a < arcCount s) × (linkAt s (acrossSlot s a) ≡ across u v)
   across-used u v t =
-      let (a, b, tail, head) = arc-number s u v t in (a, b, SlotLaws.at-across s a b ∙ ap₂ across tail head)
+      let (a, b, tail, head) = arc-number s u v t in (a, b, SlotKinds.at-across s a b ∙ ap₂ across tail head)
 
   low-below-opening : Le whole low (graphOf s .opening)
   unfolding graphOf
@@ -209,18 +210,18 @@ module _ (s : List ℕ) (right : Reads s) (mark added full : List ℕ) (S : Sett
         root-nil = root-nil;
         open-holds = λ v t u.
             let b = vertex-below v (start-below (graphOf s) v t) in
-            edge-holds (opening v) (openingSlot s v) (omega arith) (SlotLaws.at-opening s v b) (and-in (isStart (graphOf s) v) (useful (graphOf s) v) t u);
+            edge-holds (opening v) (openingSlot s v) (omega arith) (SlotKinds.at-opening s v b) (and-in (isStart (graphOf s) v) (useful (graphOf s) v) t u);
         close-holds = λ v t u.
             let b = vertex-below v (end-below (graphOf s) v t) in
-            edge-holds (closing v) (closingSlot s v) (omega arith) (SlotLaws.at-closing s v b) (and-in (isEnd (graphOf s) v) (useful (graphOf s) v) t u);
+            edge-holds (closing v) (closingSlot s v) (omega arith) (SlotKinds.at-closing s v b) (and-in (isEnd (graphOf s) v) (useful (graphOf s) v) t u);
         inside-holds = λ v u.
             let b = SlotLaws.useful-below s right v u in
-            edge-holds (inside v) (insideSlot s v) (omega arith) (SlotLaws.at-inside s v b) u;
+            edge-holds (inside v) (insideSlot s v) (omega arith) (SlotKinds.at-inside s v b) u;
         across-holds = λ u v t x y.
             let (a, b, q) = across-used u v t in
             edge-holds (across u v) (acrossSlot s a) (omega arith) q (and-in (useful (graphOf s) u) (useful (graphOf s) v) x y);
-        low-least = λ u n. held-order (base - reach) (at mark u) base (let h = side-near u n in omega arith);
-        high-most = λ u n. held-order (at mark u) (base + reach) base (side-near u n .0);
+        low-least = λ u n. held-order (base - span) (nth mark u) base (let h = side-near u n in omega arith);
+        high-most = λ u n. held-order (nth mark u) highest base (side-near u n .0);
         low-below-opening = low-below-opening;
       }
 
@@ -230,7 +231,7 @@ module _ (s : List ℕ) (right : Reads s) (mark added full : List ℕ) (S : Sett
   -- ---- the paths are a cover that meets the bound
 
   module _ (W : List Weighted) (taken : Peeled s full W) where
-    ask-total : (a : Ask) (e : ℕ) → SlotLaws.OwnSlot s a e → total (a .item) W ≡ owed (preparedOf s) a + at added e
+    ask-total : (a : Ask) (e : ℕ) → SlotLaws.OwnSlot s a e → total (a .item) W ≡ owed (preparedOf s) a + nth added e
     ask-total a e own =
         omega (
           arith,
@@ -243,10 +244,10 @@ module _ (s : List ℕ) (right : Reads s) (mark added full : List ℕ) (S : Sett
     abbrev Meets : Ask → Type 0
     Meets a = (total (a .item) W ≡ owed (preparedOf s) a) ⊎ (itemSlack whole (graphOf s) M (a .item) ≡ pos 0)
 
-    meets-at : (a : Ask) (e : ℕ) → SlotLaws.OwnSlot s a e → (1 ≤ at added e → itemSlack whole (graphOf s) M (a .item) ≡ pos 0) → Meets a
-    meets-at a e own tight = pick (at added e) refl
+    meets-at : (a : Ask) (e : ℕ) → SlotLaws.OwnSlot s a e → (1 ≤ nth added e → itemSlack whole (graphOf s) M (a .item) ≡ pos 0) → Meets a
+    meets-at a e own tight = pick (nth added e) refl
       where
-        pick : (k : ℕ) → at added e ≡ k → Meets a
+        pick : (k : ℕ) → nth added e ≡ k → Meets a
         pick zero z = inl (omega (arith, ask-total a e own))
         pick (suc k) z = inr (tight (omega arith))
 
@@ -255,28 +256,28 @@ module _ (s : List ℕ) (right : Reads s) (mark added full : List ℕ) (S : Sett
     meets =
         SlotLaws.all-asks s Meets
         (λ v h. meets-at _ (insideSlot s v) (SlotLaws.vertex-slot s v h)
-        (λ k. sym (inside-slack whole whole-ordered (graphOf s) g p low high v (added-used (inside v) (insideSlot s v) (omega arith) (SlotLaws.at-inside s v h) k)) ∙
-        edge-tight (inside v) (insideSlot s v) (omega arith) (SlotLaws.at-inside s v h) k))
+        (λ k. sym (inside-slack whole whole-ordered (graphOf s) g p low high v (added-used (inside v) (insideSlot s v) (omega arith) (SlotKinds.at-inside s v h) k)) ∙
+        edge-tight (inside v) (insideSlot s v) (omega arith) (SlotKinds.at-inside s v h) k))
         (λ a h. meets-at _ (acrossSlot s a) (SlotLaws.arc-slot s (right .arcs) a h)
         (λ k.
         let x = arcTail s (arcAt s a) in
         let y = arcHead s (arcAt s a) in
-        let used = added-used (across x y) (acrossSlot s a) (omega arith) (SlotLaws.at-across s a h) k in
+        let used = added-used (across x y) (acrossSlot s a) (omega arith) (SlotKinds.at-across s a h) k in
         sym (across-slack whole whole-ordered (graphOf s) g p low high x y (and-l (useful (graphOf s) x) (useful (graphOf s) y) used)
         (and-r (useful (graphOf s) x) (useful (graphOf s) y) used)) ∙
-        edge-tight (across x y) (acrossSlot s a) (omega arith) (SlotLaws.at-across s a h) k))
+        edge-tight (across x y) (acrossSlot s a) (omega arith) (SlotKinds.at-across s a h) k))
 
-    ends-meet : (q : List ℕ) → AtEnds (λ v. 1 ≤ at full (openingSlot s v)) (λ v. 1 ≤ at full (closingSlot s v)) q → T (isPath (graphOf s) q) →
+    ends-meet : (q : List ℕ) → AtEnds (λ v. 1 ≤ nth full (openingSlot s v)) (λ v. 1 ≤ nth full (closingSlot s v)) q → T (isPath (graphOf s) q) →
         EndsMeet whole (graphOf s) M q
     unfolding inUse
     ends-meet [] h t = tt
     ends-meet (v ∷ q) h t = (
       sym (open-slack whole whole-ordered (graphOf s) g p low high root-nil v
-          (and-r (isStart (graphOf s) v) (useful (graphOf s) v) (added-used (opening v) e eb (SlotLaws.at-opening s v vb) opened))) ∙
-          edge-tight (opening v) e eb (SlotLaws.at-opening s v vb) opened,
+          (and-r (isStart (graphOf s) v) (useful (graphOf s) v) (added-used (opening v) e eb (SlotKinds.at-opening s v vb) opened))) ∙
+          edge-tight (opening v) e eb (SlotKinds.at-opening s v vb) opened,
       sym (close-slack whole whole-ordered (graphOf s) g p low high root-nil w
-          (and-r (isEnd (graphOf s) w) (useful (graphOf s) w) (added-used (closing w) f fb (SlotLaws.at-closing s w wb) closed))) ∙
-          edge-tight (closing w) f fb (SlotLaws.at-closing s w wb) closed,
+          (and-r (isEnd (graphOf s) w) (useful (graphOf s) w) (added-used (closing w) f fb (SlotKinds.at-closing s w wb) closed))) ∙
+          edge-tight (closing w) f fb (SlotKinds.at-closing s w wb) closed,
     )
       where
         w : ℕ
@@ -300,10 +301,10 @@ module _ (s : List ℕ) (right : Reads s) (mark added full : List ℕ) (S : Sett
         fb : f < plainSlots s
         fb = omega (arith, wb)
 
-        opened : 1 ≤ at added e
+        opened : 1 ≤ nth added e
         opened = omega (arith, h .0, S .plain e eb, SlotLaws.first-end s e (omega arith) eb)
 
-        closed : 1 ≤ at added f
+        closed : 1 ≤ nth added f
         closed = omega (arith, h .1, S .plain f fb, SlotLaws.first-end s f (omega arith) fb)
 
     price-met : price whole (graphOf s) W ≡ bound whole (graphOf s) M
@@ -312,7 +313,7 @@ module _ (s : List ℕ) (right : Reads s) (mark added full : List ℕ) (S : Sett
         bound-met whole whole-ordered (graphOf s) g M (preparedOf s) (prepared-linked (graphOf s) g) W (taken .are-paths)
         (all-both W (taken .at-ends) (taken .are-paths)) meets
       where
-        all-both : (U : List Weighted) → All (λ w. AtEnds (λ v. 1 ≤ at full (openingSlot s v)) (λ v. 1 ≤ at full (closingSlot s v)) (w .path)) U →
+        all-both : (U : List Weighted) → All (λ w. AtEnds (λ v. 1 ≤ nth full (openingSlot s v)) (λ v. 1 ≤ nth full (closingSlot s v)) (w .path)) U →
             All (λ w. T (isPath (graphOf s) (w .path))) U → All (λ w. EndsMeet whole (graphOf s) M (w .path)) U
         all-both [] h k = tt
         all-both (w ∷ U) h k = (ends-meet (w .path) (h .0) (k .0), all-both U (h .1) (k .1))
@@ -361,7 +362,7 @@ module _ (s : List ℕ) (right : Reads s) (mark added full : List ℕ) (S : Sett
     arc-price a h =
         ap₂ (times whole) (taken .totals (arcItem s a) ∙ SlotLaws.item-worth s full (S .reads) _ (acrossSlot s a) (SlotLaws.arc-slot s (right .arcs) a h))
         (cost-own whole (graphOf s .arcs) (arcOf s a) (arcTail s (arcAt s a)) (arcHead s (arcAt s a)) (g .once) (arc-among s a h) (joins-own (arcOf s a))) ∙
-        times-pos (at full (acrossSlot s a) + readsThrough (arcItem s a) (preparedOf s)) (arcCost s (arcAt s a))
+        times-pos (nth full (acrossSlot s a) + readsThrough (arcItem s a) (preparedOf s)) (arcCost s (arcAt s a))
 
     -- "The price of a cover is the sum of weight times price over its paths", found from the loads
     price-is : price whole (graphOf s) W ≡ pos (priceFrom s full)
@@ -376,9 +377,9 @@ module _ (s : List ℕ) (right : Reads s) (mark added full : List ℕ) (S : Sett
 
   marks-are : finalMarks s mark ≡ M
   unfolding heldMark
-  marks-are = λ i. record { into = λ v. side (useful (graphOf s) v) (fromStart (graphOf s) v) (at mark (inNode v)) i; out = λ v. side (useful (graphOf s) v) (fromStart (graphOf s) v) (at mark (outNode v)) i }
+  marks-are = λ i. record { into = λ v. side (useful (graphOf s) v) (fromStart (graphOf s) v) (nth mark (inNode v)) i; out = λ v. side (useful (graphOf s) v) (fromStart (graphOf s) v) (nth mark (outNode v)) i }
     where
-      side : (a b : Bool) (x : ℕ) → subℕ (cond a x (cond b (base - reach) (base + reach))) base ≡ cond a (subℕ x base) (cond b low high)
+      side : (a b : Bool) (x : ℕ) → subℕ (cond a x (cond b (base - span) highest)) base ≡ cond a (subℕ x base) (cond b low high)
       side true b x = refl
       side false true x = refl
       side false false x = refl
@@ -386,10 +387,10 @@ module _ (s : List ℕ) (right : Reads s) (mark added full : List ℕ) (S : Sett
   marks-fit : MarksFit s (finalMarks s mark)
   unfolding heldMark
   marks-fit v h = (
-    side-among (λ x. InRange (subℕ x base)) (graphOf s) (base - reach) (base + reach) (at mark (inNode v)) v
-        (λ u. in-range (at mark (inNode v)) (S .in-near v u .0) (S .in-near v u .1)) (tt, tt) (tt, tt),
-    side-among (λ x. InRange (subℕ x base)) (graphOf s) (base - reach) (base + reach) (at mark (outNode v)) v
-        (λ u. in-range (at mark (outNode v)) (S .out-near v u .0) (S .out-near v u .1)) (tt, tt) (tt, tt),
+    side-among (λ x. InRange (subℕ x base)) (graphOf s) (base - span) highest (nth mark (inNode v)) v
+        (λ u. in-range (nth mark (inNode v)) (S .in-near v u .0) (S .in-near v u .1)) (tt, tt) (tt, tt),
+    side-among (λ x. InRange (subℕ x base)) (graphOf s) (base - span) highest (nth mark (outNode v)) v
+        (λ u. in-range (nth mark (outNode v)) (S .out-near v u .0) (S .out-near v u .1)) (tt, tt) (tt, tt),
   )
 
 -- Where marks and loads are settled and the paths W carry the loads, of which no more copies open than an answer may hold, the answer form of W at the price

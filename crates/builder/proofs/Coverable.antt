@@ -8,12 +8,11 @@ use mathlib.Core.Logic.{_⊎_, inl, inr, ⊎-elim, _↔_}
 use lib.Dec.{T, ltb}
 use lib.IntN.{ℤ}
 use lib.ListN.{length, getD, length-append, length-map}
-use Rattle.mathematics.specs.Lists.{All}
 use Rattle.mathematics.specs.Graph.{Graph, WellFormed, linked}
 use Rattle.mathematics.specs.Cover.{Ask, vertexAsks, arcAsk, asks, Weighted, IsCover}
 use Rattle.mathematics.specs.Exists.{ItemOnPath, ReadOnPath, Coverable}
 use Rattle.mathematics.specs.Reach.{every, itemList, askLies, readLies, coverable-test}
-use Rattle.mathematics.proofs.Basics.{and-l, and-r, and-in}
+use Rattle.mathematics.proofs.Basics.{and-l, and-r, and-in, at-all}
 use Rattle.mathematics.proofs.Existence.{cover-exists, cover-shows-coverable, coverable-decided, asks-linked, ask-lies, read-lies}
 use Rattle.forms.specs.declared.Verdict.{Verdict}
 use Rattle.forms.specs.GraphFaults.{refusal, nothingRefused, then}
@@ -22,11 +21,6 @@ use Rattle.reach.specs.Reached.{lieVerdict}
 use Rattle.builder.specs.Lacking.{Lies, FirstLacking}
 use Rattle.network.proofs.NetworkLaws.{below-or-not}
 use Rattle.reach.proofs.ReachLawsLacking.{vertex-asks-count}
-
-pub all-at : {A : Type 0} (P : A → Type 0) (xs : List A) (d : A) (p : ℕ) → All P xs → p < length xs → P (getD xs p d)
-all-at P [] d p h b = absurd (omega arith)
-all-at P (x ∷ xs) d zero h b = h .0
-all-at P (x ∷ xs) d (suc p) h b = all-at P xs d p (h .1) (omega arith)
 
 every-at : {A : Type 0} (f : A → Bool) (xs : List A) (d : A) (p : ℕ) → T (every f xs) → p < length xs → T (f (getD xs p d))
 every-at f [] d p h b = absurd (omega arith)
@@ -86,11 +80,11 @@ module _ (G : Graph ℤ) (wf : WellFormed G) (room : ℕ) where
   item-iff : (q : ℕ) → q < length (asks G) →
       T (askLies G (getD (asks G) q noAsk)) ↔ (1 ≤ getD (asks G) q noAsk .demand → ItemOnPath G (getD (asks G) q noAsk .item))
   item-iff q l =
-      ask-lies G wf (getD (asks G) q noAsk) (all-at (λ a. T (linked (G .arcs) (itemList (a .item)))) (asks G) noAsk q (asks-linked G) l)
+      ask-lies G wf (getD (asks G) q noAsk) (at-all (λ a. T (linked (G .arcs) (itemList (a .item)))) noAsk (asks G) (asks-linked G) q l)
 
   read-iff : (j : ℕ) → j < length (G .reads) → T (readLies G (getD (G .reads) j [])) ↔ ReadOnPath G (getD (G .reads) j [])
   read-iff j l =
-      let h = all-at (λ r. (2 ≤ length r) × T (linked (G .arcs) r)) (G .reads) [] j (wf .reads-linked) l in
+      let h = at-all (λ r. (2 ≤ length r) × T (linked (G .arcs) r)) [] (G .reads) (wf .reads-linked) j l in
       read-lies G wf (getD (G .reads) j []) (omega (arith, h .0)) (h .1)
 
   -- an item that lies, where all tests before it hold
@@ -156,8 +150,8 @@ module _ (G : Graph ℤ) (wf : WellFormed G) (room : ℕ) where
   coverable-lies : Coverable G → (p : ℕ) → Lies G p
   coverable-lies c p =
       record {
-        item = λ l. all-at (λ a. 1 ≤ a .demand → ItemOnPath G (a .item)) (asks G) noAsk p (c .items-lie) l;
-        read = λ j e l. all-at (ReadOnPath G) (G .reads) [] j (c .reads-lie) l;
+        item = λ l. at-all (λ a. 1 ≤ a .demand → ItemOnPath G (a .item)) noAsk (asks G) (c .items-lie) p l;
+        read = λ j e l. at-all (ReadOnPath G) [] (G .reads) (c .reads-lie) j l;
       }
 
   -- Document 01, number 8, "Given exactly when": no cover exists. "A cover exists exactly when each vertex and arc of positive demand, and each read, lies on some path".

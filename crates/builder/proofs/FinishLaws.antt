@@ -19,10 +19,11 @@ use Rattle.checker.specs.Encode.{bytes16, bytes32, bytes64, word32, markBytes, 
 use Rattle.forms.proofs.GraphFacts.{length-tabulate}
 use Rattle.checker.proofs.Encoding.{marks-length}
 use Rattle.certify.proofs.CertifyLawsSlack.{low-difference}
-use Rattle.network.specs.Network.{at, sumTo, base, reach}
+use Rattle.network.specs.Network.{nth, sumTo, base, span, mostEdges, mostMoved, highest}
 use Rattle.paths.specs.Peel.{collectedAt, collected}
 use Rattle.paths.specs.Slots.{acrossSlot, copiesOf}
-use Rattle.builder.specs.Finish.{Placed, heldMark, heldMarks, arcWorth, priceFrom, Priced}
+use Rattle.builder.specs.Finish.{Placed, heldMark, heldMarks, arcWorth, priceFrom, Priced, mostThrough, mostPrice, longestRecord}
+use Rattle.reads.specs.ReadTable.{rowLength}
 use Rattle.wiring.proofs.SlotLaws.{sum-up}
 
 module _ (a b : List ℕ) (place : ℕ) (x : List ℕ) (P : Placed a place x b) where
@@ -106,8 +107,8 @@ placed-taken a b x P =
     (ap (λ k. take k b) (sym e) ∙ placed-through a b 0 x P, ap (λ k. drop k b) (sym e) ∙ (placed-behind a b 0 x P ∙ ap (λ k. drop k a) e))
 
 -- a mark held with the base added, in two's complement
-word-below : (x : ℕ) → x < base → x + 2_294_967_296 ≡ word32 (subℕ x base)
-word-below x h = sym (ap word32 (negative x base h) ∙ (let e : 4_294_967_295 - (base - suc x) ≡ x + 2_294_967_296 = omega arith in e))
+word-below : (x : ℕ) → x < base → x + (4_294_967_296 - base) ≡ word32 (subℕ x base)
+word-below x h = sym (ap word32 (negative x base h) ∙ (let e : 4_294_967_295 - (base - suc x) ≡ x + (4_294_967_296 - base) = omega arith in e))
   where
     negative : (a b : ℕ) → a < b → subℕ a b ≡ negsuc (b - suc a)
     negative a b l = simp (lt-ltb a b l)
@@ -115,7 +116,7 @@ word-below x h = sym (ap word32 (negative x base h) ∙ (let e : 4_294_967_295 -
 word-above : (x : ℕ) → base ≤ x → x - base ≡ word32 (subℕ x base)
 word-above x h = sym (ap word32 (low-difference x base h))
 
-pub mark-below : (a b : List ℕ) (place x : ℕ) → x < base → Placed a place (bytes32 (x + 2_294_967_296)) b → Placed a place (bytes32 (word32 (subℕ x base))) b
+pub mark-below : (a b : List ℕ) (place x : ℕ) → x < base → Placed a place (bytes32 (x + (4_294_967_296 - base))) b → Placed a place (bytes32 (word32 (subℕ x base))) b
 mark-below a b place x h P = subst (λ w. Placed a place (bytes32 w) b) (word-below x h) P
 
 pub mark-above : (a b : List ℕ) (place x : ℕ) → base ≤ x → Placed a place (bytes32 (x - base)) b → Placed a place (bytes32 (word32 (subℕ x base))) b
@@ -132,21 +133,21 @@ marks-snoc m (suc k) i =
 
 module _ (a : List ℕ) (place : ℕ) (into out : List ℕ) where
   abbrev held : Marks ℤ
-  held = heldMarks (at into) (at out)
+  held = heldMarks (nth into) (nth out)
 
   -- the marks of vertex v stand behind those of the vertices before it
-  pub marks-turn : (v : ℕ) (b c d : List ℕ) → Placed a place (markBytes (heldMarks (at into) (at out)) v 0) b →
-      Placed b (place + 8 * v) (bytes32 (word32 (subℕ (at into v) base))) c → Placed c (place + 8 * v + 4) (bytes32 (word32 (subℕ (at out v) base))) d →
-      Placed a place (markBytes (heldMarks (at into) (at out)) (v + 1) 0) d
+  pub marks-turn : (v : ℕ) (b c d : List ℕ) → Placed a place (markBytes (heldMarks (nth into) (nth out)) v 0) b →
+      Placed b (place + 8 * v) (bytes32 (word32 (subℕ (nth into v) base))) c → Placed c (place + 8 * v + 4) (bytes32 (word32 (subℕ (nth out v) base))) d →
+      Placed a place (markBytes (heldMarks (nth into) (nth out)) (v + 1) 0) d
   marks-turn v b c d P Q R =
       subst (λ x. Placed a place x d)
       (sym
       (ap (λ k. markBytes held k 0) (add-one v) ∙
       (marks-snoc held v 0 ∙
       ap (λ j. markBytes held v 0 ++ (bytes32 (word32 (held .into j)) ++ bytes32 (word32 (held .out j)))) (let e : 0 + v ≡ v = omega arith in e))))
-      (placed-both a b d place (place + 8 * v) (markBytes held v 0) (bytes32 (word32 (subℕ (at into v) base)) ++ bytes32 (word32 (subℕ (at out v) base))) P
+      (placed-both a b d place (place + 8 * v) (markBytes held v 0) (bytes32 (word32 (subℕ (nth into v) base)) ++ bytes32 (word32 (subℕ (nth out v) base))) P
       (ap (λ k. place + k) (sym (marks-length held v 0)))
-      (placed-both b c d (place + 8 * v) (place + 8 * v + 4) (bytes32 (word32 (subℕ (at into v) base))) (bytes32 (word32 (subℕ (at out v) base))) Q refl R))
+      (placed-both b c d (place + 8 * v) (place + 8 * v + 4) (bytes32 (word32 (subℕ (nth into v) base))) (bytes32 (word32 (subℕ (nth out v) base))) Q refl R))
 
 -- ---- vertices, one after another
 
@@ -175,7 +176,7 @@ paths-snoc (x ∷ W) w =
 -- the end of the records of the first i paths
 pub record PathsEnd (rows : List (List ℕ)) (lens weights : List ℕ) (place i end : ℕ) : Type 0 where
   pub is : end ≡ place + length (pathBytes (collected rows lens weights i))
-  pub most : end ≤ place + 69 * i
+  pub most : end ≤ place + longestRecord * i
 
 module _ (rows : List (List ℕ)) (lens weights : List ℕ) where
   collected-more : (i : ℕ) → pathBytes (collected rows lens weights (i + 1)) ≡ pathBytes (collected rows lens weights i) ++ pathRecord (collectedAt rows lens weights i)
@@ -198,11 +199,11 @@ module _ (rows : List (List ℕ)) (lens weights : List ℕ) where
   unfolding collected
   ends-none place = record { is = omega arith; most = omega arith }
 
-  pub ends-turn : (place i end : ℕ) → length (getD rows i []) ≡ 64 → at lens i ≤ 64 → PathsEnd rows lens weights place i end →
-      PathsEnd rows lens weights place (i + 1) (end + 5 + at lens i)
+  pub ends-turn : (place i end : ℕ) → length (getD rows i []) ≡ rowLength → nth lens i ≤ rowLength → PathsEnd rows lens weights place i end →
+      PathsEnd rows lens weights place (i + 1) (end + 5 + nth lens i)
   ends-turn place i end wide short E =
       let l = ap length (collected-more i) ∙ length-append (pathBytes (collected rows lens weights i)) (pathRecord (collectedAt rows lens weights i)) in
-      let k = length-take-le (at lens i) (getD rows i []) (omega arith) in
+      let k = length-take-le (nth lens i) (getD rows i []) (omega arith) in
       let e = E .is in
       let f = E .most in
       record { is = omega arith; most = omega arith }
@@ -214,7 +215,7 @@ module _ (rows : List (List ℕ)) (lens weights : List ℕ) where
       (placed-both a b c place end (pathBytes (collected rows lens weights i)) (pathRecord (collectedAt rows lens weights i)) P (E .is) Q)
 
 -- weight, count and vertices of a path
-pub record-placed : (a b c d : List ℕ) (place weight len : ℕ) (row : List ℕ) → length row ≡ 64 → len ≤ 64 → Placed a place (bytes32 weight) b →
+pub record-placed : (a b c d : List ℕ) (place weight len : ℕ) (row : List ℕ) → length row ≡ rowLength → len ≤ rowLength → Placed a place (bytes32 weight) b →
     Placed b (place + 4) (len ∷ []) c → Placed c (place + 5) (take len row) d → Placed a place (pathRecord (record { weight = weight; path = take len row })) d
 record-placed a b c d place weight len row wide short P Q R =
     subst (λ k. Placed a place (bytes32 weight ++ (k ∷ take len row)) d) (sym (length-take-le len row (omega arith)))
@@ -246,9 +247,9 @@ module _ (a b c d e f : List ℕ) (n price : ℕ) (m : Marks ℤ) (W : List Weig
 
 -- a side's mark by the two flags of its vertex
 pub held-is : (s mark : List ℕ) (side : ℕ → ℕ) (v : ℕ) (reached reaching : Bool) (x : ℕ) → reached ≡ fromStart (graphOf s) v → reaching ≡ toEnd (graphOf s) v →
-    x ≡ cond (reached && reaching) (at mark (side v)) (cond reached (base - reach) (base + reach)) → x ≡ heldMark s side mark v
+    x ≡ cond (reached && reaching) (nth mark (side v)) (cond reached (base - span) highest) → x ≡ heldMark s side mark v
 unfolding heldMark
-held-is s mark side v reached reaching x e f q = q ∙ ap₂ (λ a b. cond (a && b) (at mark (side v)) (cond a (base - reach) (base + reach))) e f
+held-is s mark side v reached reaching x e f q = q ∙ ap₂ (λ a b. cond (a && b) (nth mark (side v)) (cond a (base - span) highest)) e f
 
 -- one more term of a sum
 pub sum-more : (n : ℕ) (f : ℕ → ℕ) (x y : ℕ) → x ≡ sumTo n f → y ≡ f n → x + y ≡ sumTo (n + 1) f
@@ -259,41 +260,41 @@ module _ (s full arcReads : List ℕ) (P : Priced s full arcReads) (n m : ℕ) (
   abbrev before : ℕ → ℕ
   before a = copiesOf s full * openingPrice s + sumTo a (arcWorth s full)
 
-  copies-same : sumTo n (λ k. at full (n + m + k)) ≡ copiesOf s full
-  copies-same = ap₂ (λ x y. sumTo x (λ k. at full (x + y + k))) en em
+  copies-same : sumTo n (λ k. nth full (n + m + k)) ≡ copiesOf s full
+  copies-same = ap₂ (λ x y. sumTo x (λ k. nth full (x + y + k))) en em
 
-  pub copies-asked : (n ≤ 64) × (n + m ≤ 320) × (sumTo n (λ k. at full (n + m + k)) ≤ 320_000_016)
-  copies-asked = let h = P .reads .arcs .header in (omega (arith, h .few-vertices), omega (arith, h .few-vertices, h .few-arcs), omega (arith, copies-same, P .few))
+  pub copies-asked : (n + m + n ≤ mostEdges) × (sumTo n (λ k. nth full (n + m + k)) ≤ mostMoved)
+  copies-asked = let h = P .reads .arcs .header in (omega (arith, h .few-vertices, h .few-arcs), omega (arith, copies-same, P .few))
 
   -- no more is reckoned than the price
-  within : (a : ℕ) → a ≤ arcCount s → before a ≤ 1_000_000_000_000_000_000
+  within : (a : ℕ) → a ≤ arcCount s → before a ≤ mostPrice
   unfolding priceFrom
   within a h = omega (arith, P .low, sum-up a (arcCount s) (arcWorth s full) h)
 
-  pub first-price : (r o : ℕ) → r ≡ sumTo n (λ k. at full (n + m + k)) → o ≡ openingPrice s → r * o ≡ copiesOf s full * openingPrice s + sumTo 0 (arcWorth s full)
+  pub first-price : (r o : ℕ) → r ≡ sumTo n (λ k. nth full (n + m + k)) → o ≡ openingPrice s → r * o ≡ copiesOf s full * openingPrice s + sumTo 0 (arcWorth s full)
   first-price r o e q = ap₂ (λ (x y : ℕ). x * y) (e ∙ copies-same) q ∙ (let z : copiesOf s full * openingPrice s ≡ copiesOf s full * openingPrice s + 0 = omega arith in z)
 
-  pub first-fits : (r o : ℕ) → r ≡ sumTo n (λ k. at full (n + m + k)) → o ≡ openingPrice s → r * o ≤ 1_000_000_000_000_000_000
+  pub first-fits : (r o : ℕ) → r ≡ sumTo n (λ k. nth full (n + m + k)) → o ≡ openingPrice s → r * o ≤ mostPrice
   first-fits r o e q = omega (arith, first-price r o e q, within 0 (omega arith))
 
   module _ (a : ℕ) (h : a < m) where
-    pub total-fits : at full (n + (m - (a + 1))) + at arcReads a ≤ 1_000_000_000_000
+    pub total-fits : nth full (n + (m - (a + 1))) + nth arcReads a ≤ mostThrough
     total-fits =
         let slot : n + (m - (a + 1)) ≡ acrossSlot s a = omega arith in
-        omega (arith, P .totals a (omega arith), P .counted a (omega arith), ap (at full) slot)
+        omega (arith, P .totals a (omega arith), P .counted a (omega arith), ap (nth full) slot)
 
     module _ (cost : ℕ) (ec : cost ≡ arcCost s (arcAt s a)) where
-      worth : (at full (n + (m - (a + 1))) + at arcReads a) * cost ≡ arcWorth s full a
+      worth : (nth full (n + (m - (a + 1))) + nth arcReads a) * cost ≡ arcWorth s full a
       worth =
           let slot : n + (m - (a + 1)) ≡ acrossSlot s a = omega arith in
-          ap₂ (λ (x y : ℕ). x * y) (ap₂ (λ (x y : ℕ). x + y) (ap (at full) slot) (P .counted a (omega arith))) ec
+          ap₂ (λ (x y : ℕ). x * y) (ap₂ (λ (x y : ℕ). x + y) (ap (nth full) slot) (P .counted a (omega arith))) ec
 
       pub next-price : (price : ℕ) → price ≡ copiesOf s full * openingPrice s + sumTo a (arcWorth s full) →
-          price + (at full (n + (m - (a + 1))) + at arcReads a) * cost ≡ copiesOf s full * openingPrice s + sumTo (a + 1) (arcWorth s full)
+          price + (nth full (n + (m - (a + 1))) + nth arcReads a) * cost ≡ copiesOf s full * openingPrice s + sumTo (a + 1) (arcWorth s full)
       next-price price e = omega (arith, worth, ap (λ k. sumTo k (arcWorth s full)) (add-one a))
 
       pub next-fits : (price : ℕ) → price ≡ copiesOf s full * openingPrice s + sumTo a (arcWorth s full) →
-          price + (at full (n + (m - (a + 1))) + at arcReads a) * cost ≤ 1_000_000_000_000_000_000
+          price + (nth full (n + (m - (a + 1))) + nth arcReads a) * cost ≤ mostPrice
       next-fits price e = omega (arith, next-price price e, within (a + 1) (omega arith))
 
   -- after the last arc it is the price

@@ -5,17 +5,17 @@ use native.Mathlib.Omega.{arith}
 use native.Mathlib.Nat.{mul-le-mul}
 use mathlib.Core.Path.{_≡_, refl, sym, ap, ap₂, _∙_}
 use mathlib.Core.List.{List, [], _∷_, _++_}
-use mathlib.Core.Bool.{Bool, true, false}
 use mathlib.Core.Logic.{_⊎_, inl, inr}
 use lib.Dec.{T}
 use lib.IntN.{ℤ, subℕ}
 use lib.ListN.{length, take, drop}
 use Rattle.mathematics.specs.Lists.{All}
 use Rattle.mathematics.specs.Graph.{linked}
-use Rattle.mathematics.specs.Cover.{Item, sameItem, oneIf, trail, countOf, Weighted, totalWeight}
+use Rattle.mathematics.specs.Cover.{Item, Weighted, totalWeight}
 use Rattle.mathematics.specs.Bound.{Marks, readsThrough}
 use Rattle.mathematics.specs.Reach.{useful}
 use Rattle.mathematics.proofs.Basics.{all-weaken}
+use Rattle.mathematics.proofs.Items.{reads-few}
 use Rattle.mathematics.proofs.Prepared.{prepared-linked, prepared-fewer}
 use Rattle.mathematics.proofs.Reach.{arc-rises, linked-first}
 use Rattle.mathematics.proofs.Links.{inNode, outNode}
@@ -29,40 +29,25 @@ use Rattle.checker.specs.Check.{checkVerdict}
 use Rattle.checker.specs.Encode.{bytes32, word32, markBytes, pathBytes, encodeAnswer}
 use Rattle.forms.proofs.GraphFacts.{graph-well-formed, graph-within}
 use Rattle.checker.proofs.Inside.{linked-inside}
-use Rattle.network.specs.Network.{at, sumTo, base, reach}
+use Rattle.network.specs.Network.{nth, sumTo, base, span, mostMoved, highest}
 use Rattle.paths.specs.Slots.{preparedOf, acrossSlot, copiesOf}
 use Rattle.wiring.specs.Lay.{ArcsCounted}
 use Rattle.paths.specs.Peel.{collectedAt, collected, PathTable, Peeled}
-use Rattle.builder.specs.Finish.{Flowed, arcWorth, priceFrom, heldMark, heldMarks, finalMarks, MarksHeld, Priced, Writable, PathsFit, Placed, Answered}
+use Rattle.builder.specs.Finish.{Flowed, arcWorth, priceFrom, heldMark, heldMarks, finalMarks, MarksHeld, Priced, Writable, PathsFit, Placed, Answered, mostThrough, mostPrice}
+use Rattle.reads.specs.ReadTable.{rowLength, tableRows}
+use Rattle.forms.specs.Limits.{maxCost}
 use Rattle.builder.proofs.FinishLaws.{placed-length, placed-taken}
 use Rattle.wiring.proofs.SlotLaws
 use Rattle.builder.proofs.Certificate.{certificate-accepted}
 
 -- ---- reads through an item are few
 
-count-most : (i : Item) (js : List Item) → countOf i js ≤ length js
-count-most i [] = omega arith
-count-most i (j ∷ js) = omega (arith, count-most i js, one (sameItem i j))
-  where
-    one : (b : Bool) → oneIf b ≤ 1
-    one true = omega arith
-    one false = omega arith
-
-trail-short : (p : List ℕ) → length (trail p) ≤ 2 * length p
-trail-short [] = omega arith
-trail-short (v ∷ []) = omega arith
-trail-short (u ∷ v ∷ p) = omega (arith, trail-short (v ∷ p))
-
-reads-few : (i : Item) (rs : List (List ℕ)) → All (λ r. length r ≤ 64) rs → readsThrough i rs ≤ 128 * length rs
-reads-few i [] h = omega arith
-reads-few i (r ∷ rs) h = omega (arith, count-most i (trail r), trail-short r, h .0, reads-few i rs (h .1))
-
 module _ (s : List ℕ) (right : Reads s) where
-  reads-short : All (λ r. length r ≤ 64) (preparedOf s)
+  reads-short : All (λ r. length r ≤ rowLength) (preparedOf s)
   reads-short =
-      all-weaken (λ r. (2 ≤ length r) × T (linked (graphOf s .arcs) r)) (λ r. length r ≤ 64) (preparedOf s) short (prepared-linked (graphOf s) (graph-well-formed s right))
+      all-weaken (λ r. (2 ≤ length r) × T (linked (graphOf s .arcs) r)) (λ r. length r ≤ rowLength) (preparedOf s) short (prepared-linked (graphOf s) (graph-well-formed s right))
     where
-      short : (r : List ℕ) → (2 ≤ length r) × T (linked (graphOf s .arcs) r) → length r ≤ 64
+      short : (r : List ℕ) → (2 ≤ length r) × T (linked (graphOf s .arcs) r) → length r ≤ rowLength
       short [] h = omega arith
       short (v ∷ []) h = omega arith
       short (v ∷ w ∷ r) h =
@@ -71,23 +56,23 @@ module _ (s : List ℕ) (right : Reads s) where
           let b = linked-inside (graphOf s) g v (w ∷ r) (omega (arith, a .0, a .1)) (h .1) .1 in
           omega (arith, graph-within s right .few-vertices)
 
-  reads-through : (i : Item) → readsThrough i (preparedOf s) ≤ 2_048
-  reads-through i = omega (arith, reads-few i (preparedOf s) reads-short, prepared-fewer (graphOf s .reads), graph-within s right .few-reads)
+  reads-through : (i : Item) → readsThrough i (preparedOf s) ≤ 2 * rowLength * tableRows
+  reads-through i = omega (arith, reads-few rowLength i (preparedOf s) reads-short, prepared-fewer (graphOf s .reads), graph-within s right .few-reads)
 
   module _ (from to mark full : List ℕ) (fl : Flowed s from to mark full) where
-    total-low : (a : ℕ) → a < arcCount s → at full (acrossSlot s a) + readsThrough (arcItem s a) (preparedOf s) ≤ 1_000_000_000
+    total-low : (a : ℕ) → a < arcCount s → nth full (acrossSlot s a) + readsThrough (arcItem s a) (preparedOf s) ≤ mostThrough
     total-low a h = omega (arith, fl .loaded .low (acrossSlot s a) (omega arith), reads-through (arcItem s a))
 
-    worth-low : (a : ℕ) → a < arcCount s → arcWorth s full a ≤ 1_000_000_000_000_000
+    worth-low : (a : ℕ) → a < arcCount s → arcWorth s full a ≤ mostThrough * maxCost
     worth-low a h =
         let k = mul-le-mul (total-low a h) (right .arcs .each a h .low-cost) in
         omega arith
 
-    sum-low : (k : ℕ) → k ≤ arcCount s → sumTo k (arcWorth s full) ≤ k * 1_000_000_000_000_000
+    sum-low : (k : ℕ) → k ≤ arcCount s → sumTo k (arcWorth s full) ≤ k * (mostThrough * maxCost)
     sum-low zero h = omega arith
     sum-low (suc k) h = omega (arith, sum-low k (omega arith), worth-low k h)
 
-    price-low : priceFrom s full ≤ 1_000_000_000_000_000_000
+    price-low : priceFrom s full ≤ mostPrice
     unfolding priceFrom
     price-low =
         let h = right .arcs .header in
@@ -106,10 +91,10 @@ module _ (s : List ℕ) (right : Reads s) where
         }
 
     module _ (into out : List ℕ) (M : MarksHeld s mark into out) where
-      held-low : (side : ℕ → ℕ) → ((v : ℕ) → T (useful (graphOf s) v) → at mark (side v) ≤ base + reach) → (v : ℕ) → heldMark s side mark v ≤ 4_000_000_000
+      held-low : (side : ℕ → ℕ) → ((v : ℕ) → T (useful (graphOf s) v) → nth mark (side v) ≤ highest) → (v : ℕ) → heldMark s side mark v ≤ 2 * base
       unfolding heldMark
       held-low side h v =
-          side-among (λ x. x ≤ 4_000_000_000) (graphOf s) (base - reach) (base + reach) (at mark (side v)) v (λ u. omega (arith, h v u)) (omega arith) (omega arith)
+          side-among (λ x. x ≤ 2 * base) (graphOf s) (base - span) highest (nth mark (side v)) v (λ u. omega (arith, h v u)) (omega arith) (omega arith)
 
       -- the marks fit their fields
       pub writable : (n : ℕ) → n ≡ vertexCount s → Writable n into out
@@ -131,7 +116,7 @@ weight-below f (suc k) i j h l = pick (SlotLaws.first-or-later i j h) (λ g. wei
     pick (inr g) more = omega (arith, more g)
 
 pub paths-fit : (s full : List ℕ) (rows : List (List ℕ)) (lens weights : List ℕ) (count : ℕ) → PathTable rows lens weights count →
-    Peeled s full (collected rows lens weights count) → copiesOf s full ≤ 320_000_016 → PathsFit rows lens weights count
+    Peeled s full (collected rows lens weights count) → copiesOf s full ≤ mostMoved → PathsFit rows lens weights count
 unfolding collected
 paths-fit s full rows lens weights count table taken few =
     record {
@@ -162,7 +147,7 @@ encode-same n price m q W h =
 -- The answer form put at the front is accepted, and every other byte is kept.
 pub answered : (s before after mark full : List ℕ) (from to : List ℕ) (into out : List ℕ) (W : List Weighted) (n price r : ℕ) → graphVerdict s .number ≡ 0 → n ≡ vertexCount s →
     Flowed s from to mark full → Peeled s full W → MarksHeld s mark into out → price ≡ priceFrom s full →
-    Placed before 0 (encodeAnswer n price (heldMarks (at into) (at out)) W) after → r ≡ length (encodeAnswer n price (heldMarks (at into) (at out)) W) → Answered s before after r
+    Placed before 0 (encodeAnswer n price (heldMarks (nth into) (nth out)) W) after → r ≡ length (encodeAnswer n price (heldMarks (nth into) (nth out)) W) → Answered s before after r
 answered s before after mark full from to into out W n price r reads en fl taken M ep P er =
     record {
       accepted = ap (checkVerdict s) (ap (λ k. take k after) er ∙ (t .0 ∙ same)) ∙ certificate-accepted s reads mark (fl .added) full (fl .settled) W taken (fl .loaded .few);
@@ -171,12 +156,12 @@ answered s before after mark full from to into out W n price r reads en fl taken
       same-length = placed-length before after 0 _ P;
     }
   where
-    t : (take (length (encodeAnswer n price (heldMarks (at into) (at out)) W)) after ≡ encodeAnswer n price (heldMarks (at into) (at out)) W) ×
-        (drop (length (encodeAnswer n price (heldMarks (at into) (at out)) W)) after ≡ drop (length (encodeAnswer n price (heldMarks (at into) (at out)) W)) before)
+    t : (take (length (encodeAnswer n price (heldMarks (nth into) (nth out)) W)) after ≡ encodeAnswer n price (heldMarks (nth into) (nth out)) W) ×
+        (drop (length (encodeAnswer n price (heldMarks (nth into) (nth out)) W)) after ≡ drop (length (encodeAnswer n price (heldMarks (nth into) (nth out)) W)) before)
     t = placed-taken before after _ P
 
-    same : encodeAnswer n price (heldMarks (at into) (at out)) W ≡ encodeAnswer (vertexCount s) (priceFrom s full) (finalMarks s mark) W
+    same : encodeAnswer n price (heldMarks (nth into) (nth out)) W ≡ encodeAnswer (vertexCount s) (priceFrom s full) (finalMarks s mark) W
     same =
-        ap₂ (λ a b. encodeAnswer a b (heldMarks (at into) (at out)) W) en ep ∙
-        encode-same (vertexCount s) (priceFrom s full) (heldMarks (at into) (at out)) (finalMarks s mark) W
+        ap₂ (λ a b. encodeAnswer a b (heldMarks (nth into) (nth out)) W) en ep ∙
+        encode-same (vertexCount s) (priceFrom s full) (heldMarks (nth into) (nth out)) (finalMarks s mark) W
         (λ v h. (ap (λ x. subℕ x base) (M .into-held v h), ap (λ x. subℕ x base) (M .out-held v h)))

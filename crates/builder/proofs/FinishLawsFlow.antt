@@ -14,13 +14,15 @@ use Rattle.mathematics.proofs.Links.{inNode, outNode, linkFrom, linkTo}
 use Rattle.forms.specs.GraphForm.{vertexCount, arcCount}
 use Rattle.forms.specs.GraphOf.{graphOf}
 use Rattle.forms.specs.GraphReads.{Reads}
-use Rattle.network.specs.Network.{at, liveAt, sumTo, share, leaving, entering, base, reach, Carried}
+use Rattle.network.specs.Network.{nth, liveAt, sumTo, share, leaving, entering, base, span, Carried, mostMoved, highest}
 use Rattle.paths.specs.Slots.{preparedOf, plainSlots, allSlots, openingSlot, readingSlot, linkAt, inUse, edgeFrom, edgeTo, edgeCost, firstLoad, liveNode, copiesOf}
 use Rattle.wiring.specs.Lay.{EdgesLaid, LoadsLaid, LiveLaid}
 use Rattle.paths.specs.Peel.{GoesRound}
 use Rattle.builder.specs.Finish.{Settled, Added, Flowed}
+use Rattle.forms.specs.Limits.{maxDemand}
 use Rattle.network.proofs.NetworkLaws.{same-or-not, below-or-not, sum-same, share-same}
 use Rattle.wiring.proofs.LayLawsLoad.{live-in, live-out}
+use Rattle.paths.proofs.SlotKinds
 use Rattle.wiring.proofs.SlotLaws
 
 -- ---- an edge and its link
@@ -63,42 +65,42 @@ sum-shares n u key a b f h =
 module _ (plain more : ℕ) (from to load first added full : List ℕ) (A : Added plain from to load first added full) where
   -- what the flow carries on loops
   loop : ℕ → ℕ
-  loop e = cond (eqb (at from e) (at to e)) (at load e) 0
+  loop e = cond (eqb (nth from e) (nth to e)) (nth load e) 0
 
-  load-parts : (e : ℕ) → e < plain → at load e ≡ at added e + loop e
+  load-parts : (e : ℕ) → e < plain → nth load e ≡ nth added e + loop e
   unfolding loop
-  load-parts e h = both (eqb (at from e) (at to e)) (A .added-is e h)
+  load-parts e h = both (eqb (nth from e) (nth to e)) (A .added-is e h)
     where
-      both : (t : Bool) → at added e ≡ cond t 0 (at load e) → at load e ≡ at added e + cond t (at load e) 0
+      both : (t : Bool) → nth added e ≡ cond t 0 (nth load e) → nth load e ≡ nth added e + cond t (nth load e) 0
       both true q = omega arith
       both false q = omega arith
 
   -- a loop leaves and enters the same node
-  loops-same : (u : ℕ) → sumTo plain (λ e. share u (at from e) (loop e)) ≡ sumTo plain (λ e. share u (at to e) (loop e))
+  loops-same : (u : ℕ) → sumTo plain (λ e. share u (nth from e) (loop e)) ≡ sumTo plain (λ e. share u (nth to e) (loop e))
   unfolding loop
-  loops-same u = sum-same plain _ _ (λ e l. each e (same-or-not (at from e) (at to e)))
+  loops-same u = sum-same plain _ _ (λ e l. each e (same-or-not (nth from e) (nth to e)))
     where
       nothing : (v : ℕ) → share u v 0 ≡ 0
       nothing v = let h = share-sum u v 0 0 in omega arith
 
-      each : (e : ℕ) → (at from e ≡ at to e) ⊎ (at from e ≢ at to e) → share u (at from e) (cond (eqb (at from e) (at to e)) (at load e) 0) ≡ share u (at to e) (cond (eqb (at from e) (at to e)) (at load e) 0)
-      each e (inl q) = ap (λ v. share u v (cond (eqb (at from e) (at to e)) (at load e) 0)) q
+      each : (e : ℕ) → (nth from e ≡ nth to e) ⊎ (nth from e ≢ nth to e) → share u (nth from e) (cond (eqb (nth from e) (nth to e)) (nth load e) 0) ≡ share u (nth to e) (cond (eqb (nth from e) (nth to e)) (nth load e) 0)
+      each e (inl q) = ap (λ v. share u v (cond (eqb (nth from e) (nth to e)) (nth load e) 0)) q
       each e (inr d) =
-          ap (λ t. share u (at from e) (cond t (at load e) 0)) (ne-eqb (at from e) (at to e) d) ∙
-          (nothing (at from e) ∙ (sym (nothing (at to e)) ∙ sym (ap (λ t. share u (at to e) (cond t (at load e) 0)) (ne-eqb (at from e) (at to e) d))))
+          ap (λ t. share u (nth from e) (cond t (nth load e) 0)) (ne-eqb (nth from e) (nth to e) d) ∙
+          (nothing (nth from e) ∙ (sym (nothing (nth to e)) ∙ sym (ap (λ t. share u (nth to e) (cond t (nth load e) 0)) (ne-eqb (nth from e) (nth to e) d))))
 
   -- the full loads at a node, by either end
   full-share : (u : ℕ) (key : List ℕ) →
-      sumTo (plain + more) (λ e. share u (at key e) (at full e)) ≡
-      sumTo (plain + more) (λ e. share u (at key e) (at first e)) + sumTo plain (λ e. share u (at key e) (at added e))
+      sumTo (plain + more) (λ e. share u (nth key e) (nth full e)) ≡
+      sumTo (plain + more) (λ e. share u (nth key e) (nth first e)) + sumTo plain (λ e. share u (nth key e) (nth added e))
   full-share u key =
       omega (
         arith,
-        SlotLaws.sum-split plain more (λ e. share u (at key e) (at full e)),
-        SlotLaws.sum-split plain more (λ e. share u (at key e) (at first e)),
-        sum-shares plain u (at key) (at first) (at added) (at full) (A .full-is),
-        sum-same more (λ k. share u (at key (plain + k)) (at full (plain + k))) (λ k. share u (at key (plain + k)) (at first (plain + k)))
-            (λ k l. ap (share u (at key (plain + k))) (A .kept (plain + k) (omega arith))),
+        SlotLaws.sum-split plain more (λ e. share u (nth key e) (nth full e)),
+        SlotLaws.sum-split plain more (λ e. share u (nth key e) (nth first e)),
+        sum-shares plain u (nth key) (nth first) (nth added) (nth full) (A .full-is),
+        sum-same more (λ k. share u (nth key (plain + k)) (nth full (plain + k))) (λ k. share u (nth key (plain + k)) (nth first (plain + k)))
+            (λ k l. ap (share u (nth key (plain + k))) (A .kept (plain + k) (omega arith))),
       )
 
   -- what is balanced with the flow's loads beside the first ones goes round with the full ones
@@ -110,8 +112,8 @@ module _ (plain more : ℕ) (from to load first added full : List ℕ) (A : Adde
         arith,
         full-share u from,
         full-share u to,
-        sum-shares plain u (at from) (at added) loop (at load) load-parts,
-        sum-shares plain u (at to) (at added) loop (at load) load-parts,
+        sum-shares plain u (nth from) (nth added) loop (nth load) load-parts,
+        sum-shares plain u (nth to) (nth added) loop (nth load) load-parts,
         loops-same u,
       )
 
@@ -119,34 +121,34 @@ module _ (plain more : ℕ) (from to load first added full : List ℕ) (A : Adde
 
 module _ (s : List ℕ) (right : Reads s) (from to cost first load mark added full : List ℕ) (live : List Bool) (moved : ℕ) (E : EdgesLaid s (allSlots s) from to cost)
     (F : LoadsLaid s (allSlots s) first) (first-used : (e : ℕ) → e < allSlots s → 1 ≤ firstLoad s e → T (inUse s (linkAt s e)))
-    (first-low : (e : ℕ) → e < allSlots s → firstLoad s e ≤ 1_000_000) (K : LiveLaid s (2 * vertexCount s + 1) live)
+    (first-low : (e : ℕ) → e < allSlots s → firstLoad s e ≤ maxDemand) (K : LiveLaid s (2 * vertexCount s + 1) live)
     (C : Carried (2 * vertexCount s + 1) (plainSlots s) live from to cost load mark (λ u. entering to first (allSlots s) u) (λ u. leaving from first (allSlots s) u) moved)
-    (few : moved ≤ 320_000_016) (A : Added (plainSlots s) from to load first added full) where
+    (few : moved ≤ mostMoved) (A : Added (plainSlots s) from to load first added full) where
   plain-below : (e : ℕ) → e < plainSlots s → e < allSlots s
   plain-below e h = omega arith
 
-  from-is : (e : ℕ) → e < plainSlots s → at from e ≡ edgeFrom s e
+  from-is : (e : ℕ) → e < plainSlots s → nth from e ≡ edgeFrom s e
   from-is e h = E .from-is e (plain-below e h)
 
-  to-is : (e : ℕ) → e < plainSlots s → at to e ≡ edgeTo s e
+  to-is : (e : ℕ) → e < plainSlots s → nth to e ≡ edgeTo s e
   to-is e h = E .to-is e (plain-below e h)
 
   -- what is added lies on edges that are no loops, and is what the flow carries
-  added-there : (e : ℕ) → e < plainSlots s → 1 ≤ at added e → (at from e ≢ at to e) × (at added e ≡ at load e)
-  added-there e h k = pick (same-or-not (at from e) (at to e))
+  added-there : (e : ℕ) → e < plainSlots s → 1 ≤ nth added e → (nth from e ≢ nth to e) × (nth added e ≡ nth load e)
+  added-there e h k = pick (same-or-not (nth from e) (nth to e))
     where
-      pick : (at from e ≡ at to e) ⊎ (at from e ≢ at to e) → (at from e ≢ at to e) × (at added e ≡ at load e)
-      pick (inl q) = absurd (omega (arith, A .added-is e h ∙ ap (λ t. cond t 0 (at load e)) (eq-eqb (at from e) (at to e) q)))
-      pick (inr d) = (d, A .added-is e h ∙ ap (λ t. cond t 0 (at load e)) (ne-eqb (at from e) (at to e) d))
+      pick : (nth from e ≡ nth to e) ⊎ (nth from e ≢ nth to e) → (nth from e ≢ nth to e) × (nth added e ≡ nth load e)
+      pick (inl q) = absurd (omega (arith, A .added-is e h ∙ ap (λ t. cond t 0 (nth load e)) (eq-eqb (nth from e) (nth to e) q)))
+      pick (inr d) = (d, A .added-is e h ∙ ap (λ t. cond t 0 (nth load e)) (ne-eqb (nth from e) (nth to e) d))
 
-  added-used : (e : ℕ) → e < plainSlots s → 1 ≤ at added e → T (inUse s (linkAt s e))
+  added-used : (e : ℕ) → e < plainSlots s → 1 ≤ nth added e → T (inUse s (linkAt s e))
   added-used e h k = no-loop-used s e (λ q. added-there e h k .0 (from-is e h ∙ (q ∙ sym (to-is e h))))
 
   -- the ends of an edge in use are those of its link
-  ends-used : (e : ℕ) → e < plainSlots s → T (inUse s (linkAt s e)) → (at from e ≡ linkFrom (linkAt s e)) × (at to e ≡ linkTo 0 (linkAt s e))
+  ends-used : (e : ℕ) → e < plainSlots s → T (inUse s (linkAt s e)) → (nth from e ≡ linkFrom (linkAt s e)) × (nth to e ≡ linkTo 0 (linkAt s e))
   ends-used e h u = (from-is e h ∙ used-from s e u, to-is e h ∙ used-to s e u)
 
-  near : (u : ℕ) → u < 2 * vertexCount s + 1 → liveNode s u ≡ true → (at mark u ≤ base + reach) × (base ≤ at mark u + reach)
+  near : (u : ℕ) → u < 2 * vertexCount s + 1 → liveNode s u ≡ true → (nth mark u ≤ highest) × (base ≤ nth mark u + span)
   near u h l =
       let t : T (liveAt live u) = subst T (sym (K .is u h ∙ l)) tt in
       (C .marks-near .not-above u h t, C .marks-near .not-below u h t)
@@ -159,15 +161,15 @@ module _ (s : List ℕ) (right : Reads s) (from to cost first load mark added fu
         out-near = λ v u. near (outNode v) (let b = below v u in omega arith) (live-out s v ∙ is-true _ u);
         slacks = λ e h u.
             let q = ends-used e h u in
-            subst₂ (λ x y. at mark y ≤ edgeCost s e + at mark x) (q .0) (q .1)
-            (subst (λ k. at mark (at to e) ≤ k + at mark (at from e)) (E .cost-is e (plain-below e h)) (C .slacks-hold e h));
+            subst₂ (λ x y. nth mark y ≤ edgeCost s e + nth mark x) (q .0) (q .1)
+            (subst (λ k. nth mark (nth to e) ≤ k + nth mark (nth from e)) (E .cost-is e (plain-below e h)) (C .slacks-hold e h));
         added-in-use = added-used;
         tight = λ e h k.
             let q = ends-used e h (added-used e h k) in
-            let l : 1 ≤ at load e = omega (arith, added-there e h k .1) in
-            subst₂ (λ x y. at mark y ≡ edgeCost s e + at mark x) (q .0) (q .1)
-            (subst (λ k. at mark (at to e) ≡ k + at mark (at from e)) (E .cost-is e (plain-below e h)) (C .loads-tight e h l));
-        plain = λ e h. A .full-is e h ∙ ap (λ k. k + at added e) (F .is e (plain-below e h));
+            let l : 1 ≤ nth load e = omega (arith, added-there e h k .1) in
+            subst₂ (λ x y. nth mark y ≡ edgeCost s e + nth mark x) (q .0) (q .1)
+            (subst (λ k. nth mark (nth to e) ≡ k + nth mark (nth from e)) (E .cost-is e (plain-below e h)) (C .loads-tight e h l));
+        plain = λ e h. A .full-is e h ∙ ap (λ k. k + nth added e) (F .is e (plain-below e h));
         reads = λ r h.
             A .kept (readingSlot s r) (omega arith) ∙
             (F .is (readingSlot s r) (omega arith) ∙ SlotLaws.first-reading s r);
@@ -185,18 +187,18 @@ module _ (s : List ℕ) (right : Reads s) (from to cost first load mark added fu
         balance = λ u h. goes-round (plainSlots s) (length (preparedOf s)) from to load first added full A u (C .balance u h);
       }
     where
-      used : (e : ℕ) → e < allSlots s → 1 ≤ at full e → (e < plainSlots s) ⊎ (plainSlots s ≤ e) → T (inUse s (linkAt s e))
-      used e h k (inl l) = pick (below-or-not 0 (at added e))
+      used : (e : ℕ) → e < allSlots s → 1 ≤ nth full e → (e < plainSlots s) ⊎ (plainSlots s ≤ e) → T (inUse s (linkAt s e))
+      used e h k (inl l) = pick (below-or-not 0 (nth added e))
         where
-          pick : (0 < at added e) ⊎ (at added e ≤ 0) → T (inUse s (linkAt s e))
+          pick : (0 < nth added e) ⊎ (nth added e ≤ 0) → T (inUse s (linkAt s e))
           pick (inl a) = added-used e l a
           pick (inr z) = first-used e h (omega (arith, A .full-is e l, F .is e h))
       used e h k (inr g) = first-used e h (omega (arith, A .kept e g, F .is e h))
 
   -- what is added to an opening leaves the root
   opening-sends : (k : ℕ) → k < vertexCount s →
-      at full (vertexCount s + arcCount s + k) ≤ share 0 (at from (vertexCount s + arcCount s + k)) (at load (vertexCount s + arcCount s + k))
-  opening-sends k h = pick (below-or-not 0 (at added e))
+      nth full (vertexCount s + arcCount s + k) ≤ share 0 (nth from (vertexCount s + arcCount s + k)) (nth load (vertexCount s + arcCount s + k))
+  opening-sends k h = pick (below-or-not 0 (nth added e))
     where
       e : ℕ
       e = vertexCount s + arcCount s + k
@@ -204,29 +206,29 @@ module _ (s : List ℕ) (right : Reads s) (from to cost first load mark added fu
       eb : e < plainSlots s
       eb = omega arith
 
-      none-first : at full e ≡ at added e
+      none-first : nth full e ≡ nth added e
       none-first = omega (arith, A .full-is e eb, F .is e (plain-below e eb), SlotLaws.first-end s e (omega arith) eb)
 
-      at-root : 1 ≤ at added e → at from e ≡ 0
+      at-root : 1 ≤ nth added e → nth from e ≡ 0
       at-root l =
           let v : ℕ = vertexCount s - (k + 1) in
           let q : e ≡ openingSlot s v = omega arith in
-          ends-used e eb (added-used e eb l) .0 ∙ ap linkFrom (ap (linkAt s) q ∙ SlotLaws.at-opening s v (omega arith))
+          ends-used e eb (added-used e eb l) .0 ∙ ap linkFrom (ap (linkAt s) q ∙ SlotKinds.at-opening s v (omega arith))
 
-      pick : (0 < at added e) ⊎ (at added e ≤ 0) → at full e ≤ share 0 (at from e) (at load e)
-      pick (inl l) = omega (arith, none-first, added-there e eb l .1, share-same 0 (at from e) (at load e) (sym (at-root l)))
+      pick : (0 < nth added e) ⊎ (nth added e ≤ 0) → nth full e ≤ share 0 (nth from e) (nth load e)
+      pick (inl l) = omega (arith, none-first, added-there e eb l .1, share-same 0 (nth from e) (nth load e) (sym (at-root l)))
       pick (inr z) = omega (arith, none-first)
 
-  copies-few : copiesOf s full ≤ 320_000_016
+  copies-few : copiesOf s full ≤ mostMoved
   unfolding leaving
   copies-few =
       let n : ℕ = vertexCount s in
       let m : ℕ = arcCount s in
-      let f : ℕ → ℕ = λ e. share 0 (at from e) (at load e) in
+      let f : ℕ → ℕ = λ e. share 0 (nth from e) (nth load e) in
       let p : plainSlots s ≡ n + m + n + n = omega arith in
       omega (
         arith,
-        SlotLaws.sum-most n (λ k. at full (n + m + k)) (λ k. f (n + m + k)) opening-sends,
+        SlotLaws.sum-most n (λ k. nth full (n + m + k)) (λ k. f (n + m + k)) opening-sends,
         SlotLaws.sum-split (n + m) n f,
         SlotLaws.sum-split (n + m + n) n f,
         ap (λ k. sumTo k f) p,
@@ -238,9 +240,9 @@ module _ (s : List ℕ) (right : Reads s) (from to cost first load mark added fu
       record {
         added = added;
         settled = settled;
-        loaded = record { goes = goes; reads = settled .reads; few = copies-few; low = λ e h. low e h (below-or-not 0 (at added e)); long = A .long };
+        loaded = record { goes = goes; reads = settled .reads; few = copies-few; low = λ e h. low e h (below-or-not 0 (nth added e)); long = A .long };
       }
     where
-      low : (e : ℕ) → e < plainSlots s → (0 < at added e) ⊎ (at added e ≤ 0) → at full e ≤ 400_000_000
+      low : (e : ℕ) → e < plainSlots s → (0 < nth added e) ⊎ (nth added e ≤ 0) → nth full e ≤ mostMoved + maxDemand
       low e h (inl l) = omega (arith, A .full-is e h, F .is e (plain-below e h), first-low e (plain-below e h), added-there e h l .1, C .few e h)
       low e h (inr z) = omega (arith, A .full-is e h, F .is e (plain-below e h), first-low e (plain-below e h))

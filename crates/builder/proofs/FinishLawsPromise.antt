@@ -21,6 +21,7 @@ use Rattle.forms.specs.BuildFaults.{roomAsked, buildVerdict}
 use Rattle.builder.specs.Build.{BuildPromise}
 use Rattle.reach.specs.Reached.{lieVerdict}
 use Rattle.builder.specs.Finish.{Answered}
+use Rattle.forms.specs.Limits.{longestAnswer}
 use Rattle.builder.proofs.Coverable.{lacking-then-room, none-lacking-iff-coverable}
 use Rattle.builder.proofs.Lowest.{verdict-of-read, verdict-of-unread}
 
@@ -77,7 +78,7 @@ module _ (s out : List ℕ) (v : Verdict) (ev : v ≡ graphVerdict s) where
         room-decides : u ≡ cond (ltb (length out) roomAsked) (refusal 9 0) nothingRefused
         room-decides = eu ∙ sym (then-passed {x = w} refl none-lacking refl)
 
-        pub room-then : 32_543 ≤ length out
+        pub room-then : longestAnswer ≤ length out
         room-then =
             elim (decLt (length out) roomAsked) [
               | yes l ↦

@@ -9,21 +9,21 @@ use borrow.Author.Tests.{eq-eqb, ne-eqb}
 use lib.Dec.{eqb}
 use lib.ListN.{length, set, replicate, length-set, length-replicate, getD-replicate}
 use lib.Seq.{getD-set-same, getD-set-other}
-use Rattle.mathematics.specs.Lists.{All}
 use Rattle.mathematics.specs.Exists.{Coverable}
 use Rattle.mathematics.specs.Prepare.{prepare}
 use Rattle.forms.specs.GraphForm.{vertexCount, arcCount}
 use Rattle.forms.specs.GraphOf.{graphOf}
 use Rattle.forms.specs.GraphReads.{Reads}
-use Rattle.reads.specs.ReadTable.{rowsOf, Leaves}
-use Rattle.certify.specs.Certify.{Counted, TableSized, CountsLow}
+use Rattle.reads.specs.ReadTable.{rowsOf, Leaves, tableRows}
+use Rattle.certify.specs.Certify.{Counted, CountsLow}
 use Rattle.reads.proofs.TableRows.{table-length}
-use Rattle.network.specs.Network.{at, sumTo, leaving, entering, base, Keys, Chained, Shape, Waiting, Carried}
+use Rattle.network.specs.Network.{nth, sumTo, leaving, entering, base, Keys, Chained, Shape, Waiting, Carried, mostNodes, mostEdges, mostMoved}
 use Rattle.paths.specs.Slots.{preparedOf, plainSlots, allSlots}
 use Rattle.wiring.specs.Lay.{EdgesLaid, LoadsLaid, Summable, Tallied, Balanced}
 use Rattle.paths.specs.Peel.{opensAt, worthOf, Ready}
 use Rattle.builder.specs.Finish.{Added, Loaded, Flowed}
 use Rattle.builder.specs.Stages.{ReadsReady, Layable, Blank, NetworkLaid, OneAdded, dropped, joined, Adding, AtBase}
+use Rattle.forms.specs.Limits.{maxVertices, maxArcs, maxDemand}
 use Rattle.network.proofs.NetworkLaws.{same-or-not}
 use Rattle.wiring.proofs.Shape.{shape-of-graph, ends-live, first-loads-in-use, summable, balance-sums, ready-to-carry}
 use Rattle.wiring.proofs.SlotLaws.{opens-worth}
@@ -45,54 +45,42 @@ reads-ready s r₁ r₂ l₁ l₂ all count vertexReads arcReads A B C =
 
 -- ---- arrays as they are made
 
-pub zeros : (n u : ℕ) → at (replicate n 0) u ≡ 0
+pub zeros : (n u : ℕ) → nth (replicate n 0) u ≡ 0
 zeros zero u = refl
 zeros (suc n) zero = refl
 zeros (suc n) (suc u) = zeros n u
 
-all-replicate : {A : Type 0} (P : A → Type 0) (n : ℕ) (x : A) → P x → All P (replicate n x)
-all-replicate P zero x h = tt
-all-replicate P (suc n) x h = (h, all-replicate P n x h)
-
-pub blank-table : TableSized (replicate 16 (replicate 64 0)) (replicate 16 0)
-blank-table =
-    record {
-      tall = length-replicate {A = List ℕ} 16 (replicate 64 0);
-      wide = all-replicate (λ (r : List ℕ). length r ≡ 64) 16 (replicate 64 0) (length-replicate {A = ℕ} 64 0);
-      sized = length-replicate {A = ℕ} 16 0;
-    }
-
-pub blank-counts : (s : List ℕ) → CountsLow s (replicate 64 0) (replicate 256 0) 0
+pub blank-counts : (s : List ℕ) → CountsLow s (replicate maxVertices 0) (replicate maxArcs 0) 0
 blank-counts s =
     record {
-      vertices-long = length-replicate {A = ℕ} 64 0;
-      arcs-long = length-replicate {A = ℕ} 256 0;
-      vertices = λ v h. omega (arith, zeros 64 v);
-      arcs = λ a h. omega (arith, zeros 256 a);
+      vertices-long = length-replicate {A = ℕ} maxVertices 0;
+      arcs-long = length-replicate {A = ℕ} maxArcs 0;
+      vertices = λ v h. omega (arith, zeros maxVertices v);
+      arcs = λ a h. omega (arith, zeros maxArcs a);
     }
 
-pub blank : (from to full : List ℕ) → length from ≡ 464 → length to ≡ 464 → length full ≡ 464 →
-    Blank from to (replicate 464 0) full (replicate 129 false) (replicate 129 0) (replicate 129 0)
+pub blank : (from to full : List ℕ) → length from ≡ mostEdges → length to ≡ mostEdges → length full ≡ mostEdges →
+    Blank from to (replicate mostEdges 0) full (replicate mostNodes false) (replicate mostNodes 0) (replicate mostNodes 0)
 blank from to full a b c =
     record {
       from-long = a;
       to-long = b;
-      cost-long = length-replicate {A = ℕ} 464 0;
+      cost-long = length-replicate {A = ℕ} mostEdges 0;
       full-long = c;
-      live-long = length-replicate {A = Bool} 129 false;
-      surplus-long = length-replicate {A = ℕ} 129 0;
-      deficit-long = length-replicate {A = ℕ} 129 0;
-      no-surplus = zeros 129;
-      no-deficit = zeros 129;
+      live-long = length-replicate {A = Bool} mostNodes false;
+      surplus-long = length-replicate {A = ℕ} mostNodes 0;
+      deficit-long = length-replicate {A = ℕ} mostNodes 0;
+      no-surplus = zeros mostNodes;
+      no-deficit = zeros mostNodes;
     }
 
-pub all-base : AtBase (replicate 129 base)
-all-base = record { long = length-replicate {A = ℕ} 129 base; each = λ u h. getD-replicate {A = ℕ} 129 u base 0 h }
+pub all-base : AtBase (replicate mostNodes base)
+all-base = record { long = length-replicate {A = ℕ} mostNodes base; each = λ u h. getD-replicate {A = ℕ} mostNodes u base 0 h }
 
 -- ---- adding loads
 
 module _ (from to load first : List ℕ) where
-  pub adding-none : length load ≡ 464 → length first ≡ 464 → Adding 0 from to load first load first
+  pub adding-none : length load ≡ mostEdges → length first ≡ mostEdges → Adding 0 from to load first load first
   adding-none a b =
       record {
         added-long = a;
@@ -103,37 +91,37 @@ module _ (from to load first : List ℕ) where
         full-kept = λ e h. refl;
       }
 
-  pub adding-more : (k : ℕ) (added full added' full' : List ℕ) → k < 464 → Adding k from to load first added full → OneAdded k from to added full added' full' →
+  pub adding-more : (k : ℕ) (added full added' full' : List ℕ) → k < mostEdges → Adding k from to load first added full → OneAdded k from to added full added' full' →
       Adding (k + 1) from to load first added' full'
   adding-more k added full added' full' h A (dropped loop ea ef) =
       rw (ea, ef) (record {
         added-long = length-set added k 0 ∙ A .added-long;
         full-long = A .full-long;
         added-is = λ e l. ⊎-elim
-            (λ q. subst (λ j. at (set added k 0) j ≡ cond (eqb (at from j) (at to j)) 0 (at load j)) (sym q)
-            (getD-set-same added k 0 0 (omega (arith, A .added-long)) ∙ sym (ap (λ t. cond t 0 (at load k)) (eq-eqb (at from k) (at to k) loop))))
+            (λ q. subst (λ j. nth (set added k 0) j ≡ cond (eqb (nth from j) (nth to j)) 0 (nth load j)) (sym q)
+            (getD-set-same added k 0 0 (omega (arith, A .added-long)) ∙ sym (ap (λ t. cond t 0 (nth load k)) (eq-eqb (nth from k) (nth to k) loop))))
             (λ ne. getD-set-other added k e 0 0 ne ∙ A .added-is e (omega arith)) (same-or-not e k);
         full-is = λ e l. ⊎-elim
             (λ q. let a = getD-set-same added k 0 0 (omega (arith, A .added-long)) in
-            subst (λ j. at full j ≡ at first j + at (set added k 0) j) (sym q) (omega (arith, A .full-kept k (omega arith))))
-            (λ ne. A .full-is e (omega arith) ∙ ap (λ x. at first e + x) (sym (getD-set-other added k e 0 0 ne))) (same-or-not e k);
+            subst (λ j. nth full j ≡ nth first j + nth (set added k 0) j) (sym q) (omega (arith, A .full-kept k (omega arith))))
+            (λ ne. A .full-is e (omega arith) ∙ ap (λ x. nth first e + x) (sym (getD-set-other added k e 0 0 ne))) (same-or-not e k);
         load-kept = λ e l. getD-set-other added k e 0 0 (λ q. omega arith) ∙ A .load-kept e (omega arith);
         full-kept = λ e l. A .full-kept e (omega arith);
       })
   adding-more k added full added' full' h A (joined apart ea ef) =
       rw (ea, ef) (record {
         added-long = A .added-long;
-        full-long = length-set full k (at full k + at added k) ∙ A .full-long;
+        full-long = length-set full k (nth full k + nth added k) ∙ A .full-long;
         added-is = λ e l. ⊎-elim
-            (λ q. subst (λ j. at added j ≡ cond (eqb (at from j) (at to j)) 0 (at load j)) (sym q)
-            (A .load-kept k (omega arith) ∙ sym (ap (λ t. cond t 0 (at load k)) (ne-eqb (at from k) (at to k) apart))))
+            (λ q. subst (λ j. nth added j ≡ cond (eqb (nth from j) (nth to j)) 0 (nth load j)) (sym q)
+            (A .load-kept k (omega arith) ∙ sym (ap (λ t. cond t 0 (nth load k)) (ne-eqb (nth from k) (nth to k) apart))))
             (λ ne. A .added-is e (omega arith)) (same-or-not e k);
         full-is = λ e l. ⊎-elim
-            (λ q. let a = getD-set-same full k (at full k + at added k) 0 (omega (arith, A .full-long)) in
-            subst (λ j. at (set full k (at full k + at added k)) j ≡ at first j + at added j) (sym q) (omega (arith, A .full-kept k (omega arith))))
-            (λ ne. getD-set-other full k e (at full k + at added k) 0 ne ∙ A .full-is e (omega arith)) (same-or-not e k);
+            (λ q. let a = getD-set-same full k (nth full k + nth added k) 0 (omega (arith, A .full-long)) in
+            subst (λ j. nth (set full k (nth full k + nth added k)) j ≡ nth first j + nth added j) (sym q) (omega (arith, A .full-kept k (omega arith))))
+            (λ ne. getD-set-other full k e (nth full k + nth added k) 0 ne ∙ A .full-is e (omega arith)) (same-or-not e k);
         load-kept = λ e l. A .load-kept e (omega arith);
-        full-kept = λ e l. getD-set-other full k e (at full k + at added k) 0 (λ q. omega arith) ∙ A .full-kept e (omega arith);
+        full-kept = λ e l. getD-set-other full k e (nth full k + nth added k) 0 (λ q. omega arith) ∙ A .full-kept e (omega arith);
       })
 
   pub adding-done : (k plain : ℕ) (added full : List ℕ) → k ≤ plain → plain ≤ k → Adding k from to load first added full → Added plain from to load first added full
@@ -147,11 +135,11 @@ module _ (from to load first : List ℕ) where
 
 -- ---- the network
 
-pub edges-none : (s from to cost : List ℕ) → length from ≡ 464 → length to ≡ 464 → length cost ≡ 464 → EdgesLaid s 0 from to cost
+pub edges-none : (s from to cost : List ℕ) → length from ≡ mostEdges → length to ≡ mostEdges → length cost ≡ mostEdges → EdgesLaid s 0 from to cost
 edges-none s from to cost a b c =
     record { from-long = a; to-long = b; cost-long = c; from-is = λ e h. absurd (omega arith); to-is = λ e h. absurd (omega arith); cost-is = λ e h. absurd (omega arith) }
 
-pub loads-none : (s load : List ℕ) → length load ≡ 464 → LoadsLaid s 0 load
+pub loads-none : (s load : List ℕ) → length load ≡ mostEdges → LoadsLaid s 0 load
 loads-none s load a = record { long = a; is = λ e h. absurd (omega arith) }
 
 -- the numbers of nodes and edges, as the code reckons them
@@ -170,7 +158,7 @@ module _ (s : List ℕ) (n m count : ℕ) (en : n ≡ vertexCount s) (em : m ≡
       Balanced (2 * vertexCount s + 1) (allSlots s) from to first surplus deficit
   laid-balance from to first surplus deficit B = rw (← nodes-are, ← edges-are) B
 
-pub tally-none : (N : ℕ) (from to first surplus deficit : List ℕ) → length surplus ≡ 129 → length deficit ≡ 129 → ((u : ℕ) → at surplus u ≡ 0) → ((u : ℕ) → at deficit u ≡ 0) →
+pub tally-none : (N : ℕ) (from to first surplus deficit : List ℕ) → length surplus ≡ mostNodes → length deficit ≡ mostNodes → ((u : ℕ) → nth surplus u ≡ 0) → ((u : ℕ) → nth deficit u ≡ 0) →
     Tallied N 0 from to first surplus deficit
 unfolding leaving entering
 tally-none N from to first surplus deficit a b c d = record { into-long = a; out-long = b; entered = λ u h. c u; left = λ u h. d u }
@@ -180,56 +168,56 @@ module _ (s : List ℕ) (kept : List Bool) (Y : Layable s kept) where
     pub laid-shape : Shape (2 * vertexCount s + 1) (plainSlots s) live from to cost
     laid-shape = shape-of-graph s (Y .reads) (allSlots s) (omega arith) from to cost (L .edges) live (L .nodes)
 
-    pub laid-waiting : (load mark : List ℕ) → length load ≡ 464 → length mark ≡ 129 → ((e : ℕ) → e < plainSlots s → at load e ≡ 0) → ((u : ℕ) → u < 129 → at mark u ≡ base) →
+    pub laid-waiting : (load mark : List ℕ) → length load ≡ mostEdges → length mark ≡ mostNodes → ((e : ℕ) → e < plainSlots s → nth load e ≡ 0) → ((u : ℕ) → u < mostNodes → nth mark u ≡ base) →
         Waiting (2 * vertexCount s + 1) (plainSlots s) live load mark surplus deficit
     laid-waiting load mark a b c d =
         let few = Y .reads .arcs .header .few-vertices in
         ready-to-carry s (Y .reads) (Y .coverable) from to cost first (L .edges) (L .loads) live (L .nodes) surplus deficit (L .balance) load mark a b c (λ u h. d u (omega arith))
 
     -- the first loads are low
-    pub first-low : (e : ℕ) → e < plainSlots s → at first e ≤ 1_000_000
+    pub first-low : (e : ℕ) → e < plainSlots s → nth first e ≤ maxDemand
     first-low e h = summable s (Y .reads) (Y .coverable) from to cost first (L .edges) (L .loads) .low e (omega arith)
 
     module _ (load mark : List ℕ)
-        (C : (given wanted : ℕ → ℕ) → ((u : ℕ) → u < 2 * vertexCount s + 1 → at surplus u + wanted u ≡ at deficit u + given u) →
-        Carried (2 * vertexCount s + 1) (plainSlots s) live from to cost load mark given wanted (sumTo (2 * vertexCount s + 1) (λ u. at surplus u))) where
+        (C : (given wanted : ℕ → ℕ) → ((u : ℕ) → u < 2 * vertexCount s + 1 → nth surplus u + wanted u ≡ nth deficit u + given u) →
+        Carried (2 * vertexCount s + 1) (plainSlots s) live from to cost load mark given wanted (sumTo (2 * vertexCount s + 1) (λ u. nth surplus u))) where
       carried : Carried (2 * vertexCount s + 1) (plainSlots s) live from to cost load mark (λ u. entering to first (allSlots s) u) (λ u. leaving from first (allSlots s) u)
-          (sumTo (2 * vertexCount s + 1) (λ u. at surplus u))
+          (sumTo (2 * vertexCount s + 1) (λ u. nth surplus u))
       carried = C (λ u. entering to first (allSlots s) u) (λ u. leaving from first (allSlots s) u) (L .balance .balance)
 
-      pub loads-low : (e : ℕ) → e < plainSlots s → (at load e ≤ 320_000_016) × (at first e ≤ 1_000_000)
+      pub loads-low : (e : ℕ) → e < plainSlots s → (nth load e ≤ mostMoved) × (nth first e ≤ maxDemand)
       loads-low e h = (carried .few e h, first-low e h)
 
       -- what the flow leaves
       pub all-flowed : (added full : List ℕ) → Added (plainSlots s) from to load first added full → Flowed s from to mark full
       all-flowed added full A =
-          flowed s (Y .reads) from to cost first load mark added full live (sumTo (2 * vertexCount s + 1) (λ u. at surplus u)) (L .edges) (L .loads)
+          flowed s (Y .reads) from to cost first load mark added full live (sumTo (2 * vertexCount s + 1) (λ u. nth surplus u)) (L .edges) (L .loads)
           (first-loads-in-use s (Y .reads) (Y .coverable))
-          (λ e h. subst (λ x. x ≤ 1_000_000) (L .loads .is e h) (summable s (Y .reads) (Y .coverable) from to cost first (L .edges) (L .loads) .low e h)) (L .nodes) carried
+          (λ e h. subst (λ x. x ≤ maxDemand) (L .loads .is e h) (summable s (Y .reads) (Y .coverable) from to cost first (L .edges) (L .loads) .low e h)) (L .nodes) carried
           (balance-sums s (Y .reads) (Y .coverable) from to cost first (L .edges) (L .loads) live (L .nodes) surplus deficit (L .balance) .1) A
 
 -- the same by the numbers of vertices and arcs that the code holds
 module _ (s : List ℕ) (kept : List Bool) (Y : Layable s kept) (n m : ℕ) (en : n ≡ vertexCount s) (em : m ≡ arcCount s) (from to cost first : List ℕ) (live : List Bool)
     (surplus deficit : List ℕ) (L : NetworkLaid s from to cost first live surplus deficit) where
-  pub to-carry : (mark : List ℕ) → AtBase mark → Shape (2 * n + 1) (3 * n + m) live from to cost × Waiting (2 * n + 1) (3 * n + m) live (replicate 464 0) mark surplus deficit
+  pub to-carry : (mark : List ℕ) → AtBase mark → Shape (2 * n + 1) (3 * n + m) live from to cost × Waiting (2 * n + 1) (3 * n + m) live (replicate mostEdges 0) mark surplus deficit
   to-carry mark b = (
     subst₂ (λ (x y : ℕ). Shape (2 * x + 1) (3 * x + y) live from to cost) (sym en) (sym em) (laid-shape s kept Y from to cost first live surplus deficit L),
-    subst₂ (λ (x y : ℕ). Waiting (2 * x + 1) (3 * x + y) live (replicate 464 0) mark surplus deficit) (sym en) (sym em)
-        (laid-waiting s kept Y from to cost first live surplus deficit L (replicate 464 0) mark (length-replicate {A = ℕ} 464 0) (b .long) (λ e h. zeros 464 e) (b .each)),
+    subst₂ (λ (x y : ℕ). Waiting (2 * x + 1) (3 * x + y) live (replicate mostEdges 0) mark surplus deficit) (sym en) (sym em)
+        (laid-waiting s kept Y from to cost first live surplus deficit L (replicate mostEdges 0) mark (length-replicate {A = ℕ} mostEdges 0) (b .long) (λ e h. zeros mostEdges e) (b .each)),
   )
 
   module _ (load mark : List ℕ)
-      (C : (given wanted : ℕ → ℕ) → ((u : ℕ) → u < 2 * n + 1 → at surplus u + wanted u ≡ at deficit u + given u) →
-      Carried (2 * n + 1) (3 * n + m) live from to cost load mark given wanted (sumTo (2 * n + 1) (λ u. at surplus u))) where
-    moved : (given wanted : ℕ → ℕ) → ((u : ℕ) → u < 2 * vertexCount s + 1 → at surplus u + wanted u ≡ at deficit u + given u) →
-        Carried (2 * vertexCount s + 1) (plainSlots s) live from to cost load mark given wanted (sumTo (2 * vertexCount s + 1) (λ u. at surplus u))
+      (C : (given wanted : ℕ → ℕ) → ((u : ℕ) → u < 2 * n + 1 → nth surplus u + wanted u ≡ nth deficit u + given u) →
+      Carried (2 * n + 1) (3 * n + m) live from to cost load mark given wanted (sumTo (2 * n + 1) (λ u. nth surplus u))) where
+    moved : (given wanted : ℕ → ℕ) → ((u : ℕ) → u < 2 * vertexCount s + 1 → nth surplus u + wanted u ≡ nth deficit u + given u) →
+        Carried (2 * vertexCount s + 1) (plainSlots s) live from to cost load mark given wanted (sumTo (2 * vertexCount s + 1) (λ u. nth surplus u))
     moved =
         subst₂
-        (λ (x y : ℕ). (given wanted : ℕ → ℕ) → ((u : ℕ) → u < 2 * x + 1 → at surplus u + wanted u ≡ at deficit u + given u) →
-        Carried (2 * x + 1) (3 * x + y) live from to cost load mark given wanted (sumTo (2 * x + 1) (λ u. at surplus u)))
+        (λ (x y : ℕ). (given wanted : ℕ → ℕ) → ((u : ℕ) → u < 2 * x + 1 → nth surplus u + wanted u ≡ nth deficit u + given u) →
+        Carried (2 * x + 1) (3 * x + y) live from to cost load mark given wanted (sumTo (2 * x + 1) (λ u. nth surplus u)))
         en em C
 
-    pub to-add : length load ≡ 464 → ((3 * n + m ≤ 464) × (length load ≡ 464) × (length first ≡ 464)) × ((e : ℕ) → e < 3 * n + m → (at load e ≤ 320_000_016) × (at first e ≤ 1_000_000))
+    pub to-add : length load ≡ mostEdges → ((3 * n + m ≤ mostEdges) × (length load ≡ mostEdges) × (length first ≡ mostEdges)) × ((e : ℕ) → e < 3 * n + m → (nth load e ≤ mostMoved) × (nth first e ≤ maxDemand))
     to-add long =
         let h = Y .reads .arcs .header in
         ((omega (arith, h .few-vertices, h .few-arcs), long, L .loads .long), λ e l. loads-low s kept Y from to cost first live surplus deficit L load mark moved e (omega arith))
@@ -243,7 +231,7 @@ module _ (s : List ℕ) (kept : List Bool) (Y : Layable s kept) (n m : ℕ) (en 
 
 module _ (s : List ℕ) (right : Reads s) (c : Coverable (graphOf s)) (n m count : ℕ) (en : n ≡ vertexCount s) (em : m ≡ arcCount s) (ec : count ≡ length (preparedOf s))
     (from to full : List ℕ) (L : Loaded s from to full) where
-  pub all-keys : (head next : List ℕ) → count ≤ 16 → length head ≡ 129 → length next ≡ 464 → Keys (2 * n + 1) (3 * n + m + count) from head next
+  pub all-keys : (head next : List ℕ) → count ≤ tableRows → length head ≡ mostNodes → length next ≡ mostEdges → Keys (2 * n + 1) (3 * n + m + count) from head next
   all-keys head next few a b =
       let h = right .arcs .header in
       record {
@@ -269,5 +257,5 @@ module _ (s : List ℕ) (right : Reads s) (c : Coverable (graphOf s)) (n m count
         chained = C;
       }
 
-  pub opens-few : worthOf s full (opensAt s) ≤ 320000016
+  pub opens-few : worthOf s full (opensAt s) ≤ mostMoved
   opens-few = omega (arith, opens-worth s full, L .few)

@@ -15,27 +15,46 @@ use Rattle.forms.specs.GraphOf.{graphOf, arcItem}
 use Rattle.forms.specs.GraphReads.{Reads}
 use Rattle.forms.specs.GraphFaults.{nothingRefused}
 use Rattle.checker.specs.Check.{checkVerdict}
-use Rattle.network.specs.Network.{at, sumTo, base, reach}
+use Rattle.network.specs.Network.{nth, sumTo, base, span, mostEdges, mostMoved, highest}
 use Rattle.paths.specs.Slots.{preparedOf, plainSlots, acrossSlot, readingSlot, linkAt, inUse, edgeCost, firstLoad, copiesOf}
 use Rattle.paths.specs.Peel.{GoesRound}
+use Rattle.reads.specs.ReadTable.{rowLength, tableRows}
+use Rattle.forms.specs.Limits.{maxVertices, maxDemand, maxOpening, maxArcs, maxCost}
+use Rattle.forms.specs.AnswerForm.{pathHeaderLength}
+
+-- ---- sizes, from those of the form, of the tables and of the network
+
+-- what passes an arc at the most: what its link carries, its first load with all that is moved, and each prepared read, twice for each vertex in its row
+abbrev pub mostThrough : ℕ
+mostThrough = mostMoved + maxDemand + 2 * rowLength * tableRows
+
+-- so no price is higher
+abbrev pub mostPrice : ℕ
+mostPrice = mostMoved * maxOpening + maxArcs * (mostThrough * maxCost)
+
+-- no record of a path is longer
+abbrev pub longestRecord : ℕ
+longestRecord = pathHeaderLength + rowLength
+
+-- ---- what stands in the arrays
 
 -- Marks of the nodes and loads added to the first ones, once all is carried: marks are near the root's, no slack of a link in use is below 0, a link with an
 -- added load is in use and has slack 0; `full` is what each link carries in all.
 pub record Settled (s mark added full : List ℕ) : Type 0 where
-  pub at-root : at mark 0 ≡ base
-  pub in-near : (v : ℕ) → T (useful (graphOf s) v) → (at mark (inNode v) ≤ base + reach) × (base ≤ at mark (inNode v) + reach)
-  pub out-near : (v : ℕ) → T (useful (graphOf s) v) → (at mark (outNode v) ≤ base + reach) × (base ≤ at mark (outNode v) + reach)
+  pub at-root : nth mark 0 ≡ base
+  pub in-near : (v : ℕ) → T (useful (graphOf s) v) → (nth mark (inNode v) ≤ highest) × (base ≤ nth mark (inNode v) + span)
+  pub out-near : (v : ℕ) → T (useful (graphOf s) v) → (nth mark (outNode v) ≤ highest) × (base ≤ nth mark (outNode v) + span)
   pub slacks : (e : ℕ) → e < plainSlots s → T (inUse s (linkAt s e)) →
-      at mark (linkTo 0 (linkAt s e)) ≤ edgeCost s e + at mark (linkFrom (linkAt s e))
-  pub added-in-use : (e : ℕ) → e < plainSlots s → 1 ≤ at added e → T (inUse s (linkAt s e))
-  pub tight : (e : ℕ) → e < plainSlots s → 1 ≤ at added e →
-      at mark (linkTo 0 (linkAt s e)) ≡ edgeCost s e + at mark (linkFrom (linkAt s e))
-  pub plain : (e : ℕ) → e < plainSlots s → at full e ≡ firstLoad s e + at added e
-  pub reads : (r : ℕ) → r < length (preparedOf s) → at full (readingSlot s r) ≡ 1
+      nth mark (linkTo 0 (linkAt s e)) ≤ edgeCost s e + nth mark (linkFrom (linkAt s e))
+  pub added-in-use : (e : ℕ) → e < plainSlots s → 1 ≤ nth added e → T (inUse s (linkAt s e))
+  pub tight : (e : ℕ) → e < plainSlots s → 1 ≤ nth added e →
+      nth mark (linkTo 0 (linkAt s e)) ≡ edgeCost s e + nth mark (linkFrom (linkAt s e))
+  pub plain : (e : ℕ) → e < plainSlots s → nth full e ≡ firstLoad s e + nth added e
+  pub reads : (r : ℕ) → r < length (preparedOf s) → nth full (readingSlot s r) ≡ 1
 
 -- what the copies through arc a cost there
 abbrev pub arcWorth : List ℕ → List ℕ → ℕ → ℕ
-arcWorth s full a = (at full (acrossSlot s a) + readsThrough (arcItem s a) (preparedOf s)) * arcCost s (arcAt s a)
+arcWorth s full a = (nth full (acrossSlot s a) + readsThrough (arcItem s a) (preparedOf s)) * arcCost s (arcAt s a)
 
 -- "The price of a cover", from the loads that its paths carry
 unfoldable pub priceFrom : List ℕ → List ℕ → ℕ
@@ -43,7 +62,7 @@ priceFrom s full = copiesOf s full * openingPrice s + sumTo (arcCount s) (arcWor
 
 -- The mark of a side of vertex v, held with `base` added: its node's where v is useful; the greatest where no start leads to v; else the least.
 unfoldable pub heldMark : List ℕ → (ℕ → ℕ) → List ℕ → ℕ → ℕ
-heldMark s side mark v = sideMark (graphOf s) (base - reach) (base + reach) (at mark (side v)) v
+heldMark s side mark v = sideMark (graphOf s) (base - span) highest (nth mark (side v)) v
 
 -- the marks that are held so
 abbrev pub heldMarks : (ℕ → ℕ) → (ℕ → ℕ) → Marks ℤ
@@ -60,45 +79,45 @@ pub record Placed (before : List ℕ) (place : ℕ) (bytes after : List ℕ) : T
 
 -- the marks of n vertices, held with `base` added, can be written: none is above twice the base
 pub record Writable (n : ℕ) (into out : List ℕ) : Type 0 where
-  pub few : n ≤ 64
-  pub into-low : (v : ℕ) → v < n → at into v ≤ 4_000_000_000
-  pub out-low : (v : ℕ) → v < n → at out v ≤ 4_000_000_000
+  pub few : n ≤ maxVertices
+  pub into-low : (v : ℕ) → v < n → nth into v ≤ 2 * base
+  pub out-low : (v : ℕ) → v < n → nth out v ≤ 2 * base
 
 -- the rows of a table of collected paths fit an answer form's fields
 pub record PathsFit (rows : List (List ℕ)) (lens weights : List ℕ) (count : ℕ) : Type 0 where
-  pub few : count ≤ 464
-  pub tall : length rows ≡ 464
-  pub wide : (k : ℕ) → k < count → length (getD rows k []) ≡ 64
-  pub short : (k : ℕ) → k < count → at lens k ≤ 64
-  pub light : (k : ℕ) → k < count → at weights k < 4_294_967_296
+  pub few : count ≤ mostEdges
+  pub tall : length rows ≡ mostEdges
+  pub wide : (k : ℕ) → k < count → length (getD rows k []) ≡ rowLength
+  pub short : (k : ℕ) → k < count → nth lens k ≤ rowLength
+  pub light : (k : ℕ) → k < count → nth weights k < 4_294_967_296
 
 -- the arrays hold the final marks of all vertices of the form
 pub record MarksHeld (s mark into out : List ℕ) : Type 0 where
-  pub into-held : (v : ℕ) → v < vertexCount s → at into v ≡ heldMark s inNode mark v
-  pub out-held : (v : ℕ) → v < vertexCount s → at out v ≡ heldMark s outNode mark v
+  pub into-held : (v : ℕ) → v < vertexCount s → nth into v ≡ heldMark s inNode mark v
+  pub out-held : (v : ℕ) → v < vertexCount s → nth out v ≡ heldMark s outNode mark v
 
 -- the loads have a price that is small enough to reckon with, and the counts are those of the prepared reads through each arc
 pub record Priced (s full arcReads : List ℕ) : Type 0 where
   pub reads : Reads s
-  pub few : copiesOf s full ≤ 320_000_016
-  pub low : priceFrom s full ≤ 1_000_000_000_000_000_000
-  pub totals : (a : ℕ) → a < arcCount s → at full (acrossSlot s a) + readsThrough (arcItem s a) (preparedOf s) ≤ 1_000_000_000_000
-  pub counted : (a : ℕ) → a < arcCount s → at arcReads a ≡ readsThrough (arcItem s a) (preparedOf s)
+  pub few : copiesOf s full ≤ mostMoved
+  pub low : priceFrom s full ≤ mostPrice
+  pub totals : (a : ℕ) → a < arcCount s → nth full (acrossSlot s a) + readsThrough (arcItem s a) (preparedOf s) ≤ mostThrough
+  pub counted : (a : ℕ) → a < arcCount s → nth arcReads a ≡ readsThrough (arcItem s a) (preparedOf s)
 
 -- What the flow adds to the first loads of the first `plain` edges: what it carries there, but nothing on a loop, which stands for a link that is not in use.
 pub record Added (plain : ℕ) (from to load first added full : List ℕ) : Type 0 where
-  pub long : length full ≡ 464
-  pub added-is : (e : ℕ) → e < plain → at added e ≡ cond (eqb (at from e) (at to e)) 0 (at load e)
-  pub full-is : (e : ℕ) → e < plain → at full e ≡ at first e + at added e
-  pub kept : (e : ℕ) → plain ≤ e → at full e ≡ at first e
+  pub long : length full ≡ mostEdges
+  pub added-is : (e : ℕ) → e < plain → nth added e ≡ cond (eqb (nth from e) (nth to e)) 0 (nth load e)
+  pub full-is : (e : ℕ) → e < plain → nth full e ≡ nth first e + nth added e
+  pub kept : (e : ℕ) → plain ≤ e → nth full e ≡ nth first e
 
 -- Full loads once all is carried: they go round, each prepared read has its unit, and no more copies open than an answer may hold.
 pub record Loaded (s from to full : List ℕ) : Type 0 where
   pub goes : GoesRound s (2 * vertexCount s + 1) from to full
-  pub reads : (r : ℕ) → r < length (preparedOf s) → at full (readingSlot s r) ≡ 1
-  pub few : copiesOf s full ≤ 320_000_016
-  pub low : (e : ℕ) → e < plainSlots s → at full e ≤ 400_000_000
-  pub long : length full ≡ 464
+  pub reads : (r : ℕ) → r < length (preparedOf s) → nth full (readingSlot s r) ≡ 1
+  pub few : copiesOf s full ≤ mostMoved
+  pub low : (e : ℕ) → e < plainSlots s → nth full e ≤ mostMoved + maxDemand
+  pub long : length full ≡ mostEdges
 
 -- Marks and full loads once all is carried.
 pub record Flowed (s from to mark full : List ℕ) : Type 0 where

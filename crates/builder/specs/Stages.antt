@@ -13,7 +13,7 @@ use Rattle.forms.specs.GraphForm.{vertexCount}
 use Rattle.forms.specs.GraphOf.{graphOf}
 use Rattle.forms.specs.GraphReads.{Reads}
 use Rattle.reads.specs.ReadTable.{Leaves}
-use Rattle.network.specs.Network.{at, base}
+use Rattle.network.specs.Network.{nth, base, mostNodes, mostEdges}
 use Rattle.paths.specs.Slots.{preparedOf, allSlots}
 use Rattle.reach.specs.Reached.{Tells}
 use Rattle.wiring.specs.Lay.{VerticesCounted, ArcsCounted, EdgesLaid, LoadsLaid, LiveLaid, Balanced}
@@ -32,15 +32,15 @@ pub record Layable (s : List ℕ) (kept : List Bool) : Type 0 where
 
 -- arrays that nothing is laid in yet
 pub record Blank (from to cost full : List ℕ) (live : List Bool) (surplus deficit : List ℕ) : Type 0 where
-  pub from-long : length from ≡ 464
-  pub to-long : length to ≡ 464
-  pub cost-long : length cost ≡ 464
-  pub full-long : length full ≡ 464
-  pub live-long : length live ≡ 129
-  pub surplus-long : length surplus ≡ 129
-  pub deficit-long : length deficit ≡ 129
-  pub no-surplus : (u : ℕ) → at surplus u ≡ 0
-  pub no-deficit : (u : ℕ) → at deficit u ≡ 0
+  pub from-long : length from ≡ mostEdges
+  pub to-long : length to ≡ mostEdges
+  pub cost-long : length cost ≡ mostEdges
+  pub full-long : length full ≡ mostEdges
+  pub live-long : length live ≡ mostNodes
+  pub surplus-long : length surplus ≡ mostNodes
+  pub deficit-long : length deficit ≡ mostNodes
+  pub no-surplus : (u : ℕ) → nth surplus u ≡ 0
+  pub no-deficit : (u : ℕ) → nth deficit u ≡ 0
 
 -- the whole network of the form s, with its first loads and what has to move
 pub record NetworkLaid (s from to cost first : List ℕ) (live : List Bool) (surplus deficit : List ℕ) : Type 0 where
@@ -51,19 +51,19 @@ pub record NetworkLaid (s from to cost first : List ℕ) (live : List Bool) (sur
 
 -- every mark is the base
 pub record AtBase (mark : List ℕ) : Type 0 where
-  pub long : length mark ≡ 129
-  pub each : (u : ℕ) → u < 129 → at mark u ≡ base
+  pub long : length mark ≡ mostNodes
+  pub each : (u : ℕ) → u < mostNodes → nth mark u ≡ base
 
 -- what the flow carries on edge e is dropped where the edge is a loop, and else is added to its first load
 pub data OneAdded (e : ℕ) (from to load full load' full' : List ℕ) : Type 0 where
-  dropped : at from e ≡ at to e → load' ≡ set load e 0 → full' ≡ full → OneAdded e from to load full load' full'
-  joined : at from e ≢ at to e → load' ≡ load → full' ≡ set full e (at full e + at load e) → OneAdded e from to load full load' full'
+  dropped : nth from e ≡ nth to e → load' ≡ set load e 0 → full' ≡ full → OneAdded e from to load full load' full'
+  joined : nth from e ≢ nth to e → load' ≡ load → full' ≡ set full e (nth full e + nth load e) → OneAdded e from to load full load' full'
 
 -- loads are being added to the first ones: those below k are, the others are as they were
 pub record Adding (k : ℕ) (from to load first added full : List ℕ) : Type 0 where
-  pub added-long : length added ≡ 464
-  pub full-long : length full ≡ 464
-  pub added-is : (e : ℕ) → e < k → at added e ≡ cond (eqb (at from e) (at to e)) 0 (at load e)
-  pub full-is : (e : ℕ) → e < k → at full e ≡ at first e + at added e
-  pub load-kept : (e : ℕ) → k ≤ e → at added e ≡ at load e
-  pub full-kept : (e : ℕ) → k ≤ e → at full e ≡ at first e
+  pub added-long : length added ≡ mostEdges
+  pub full-long : length full ≡ mostEdges
+  pub added-is : (e : ℕ) → e < k → nth added e ≡ cond (eqb (nth from e) (nth to e)) 0 (nth load e)
+  pub full-is : (e : ℕ) → e < k → nth full e ≡ nth first e + nth added e
+  pub load-kept : (e : ℕ) → k ≤ e → nth added e ≡ nth load e
+  pub full-kept : (e : ℕ) → k ≤ e → nth full e ≡ nth first e

@@ -12,12 +12,17 @@ use checker::reader::read_graph;
 use forms::arcs::first_arcs;
 use forms::bytes::be16;
 use forms::bytes::wide;
+use network::BASE;
+use network::EDGES;
+use network::NODES;
 use network::carry_all;
 use network::chain;
 use paths::peel_all;
 use reach::first_lacking;
 use reach::reach_ends;
 use reach::reach_from_starts;
+use reads::ROW;
+use reads::ROWS;
 use reads::prepare_reads;
 use wiring::both;
 use wiring::lay_balance;
@@ -35,21 +40,22 @@ ghost use Rattle.forms.specs.GraphOf.{graphOf};
 ghost use Rattle.forms.specs.GraphReads.{Reads};
 ghost use Rattle.forms.specs.GraphFaults.{refusal, nothingRefused, then, graphVerdict};
 ghost use Rattle.forms.specs.BuildFaults.{roomAsked};
-ghost use Rattle.reads.specs.ReadTable.{Leaves};
-ghost use Rattle.certify.specs.Certify.{TableSized, CountsLow};
-ghost use Rattle.network.specs.Network.{at, sumTo, Shape, Waiting, Carried};
+ghost use Rattle.reads.specs.ReadTable.{Leaves, TableSized};
+ghost use Rattle.certify.specs.Certify.{CountsLow};
+ghost use Rattle.network.specs.Network.{nth, sumTo, Shape, Waiting, Carried, mostNodes, mostEdges, mostMoved};
 ghost use Rattle.paths.specs.Slots.{preparedOf};
-ghost use Rattle.reach.specs.Reached.{Marked, Tells};
+ghost use Rattle.reach.specs.Reached.{Reachable, Tells};
 ghost use Rattle.paths.specs.Peel.{PathTable, Peeled, collected};
 ghost use Rattle.builder.specs.Finish.{Added, Loaded, Flowed, Answered};
 ghost use Rattle.builder.specs.Build.{BuildPromise};
 ghost use Rattle.builder.specs.Stages.{ReadsReady, Layable, Blank, NetworkLaid, OneAdded, AtBase};
+ghost use Rattle.forms.specs.Limits.{maxVertices, maxDemand, longestAnswer};
 
 // Fills the table with the prepared reads and counts what they pass; gives how many there are.
 fn prepare_table(
     s: &[u8],
-    rows: &mut [[u8; 64]; 16],
-    lens: &mut [usize; 16],
+    rows: &mut [[u8; ROW]; ROWS],
+    lens: &mut [usize; ROWS],
     vertex_reads: &mut [usize; Graph::MAX_VERTICES],
     arc_reads: &mut [usize; Graph::MAX_ARCS],
 ) -> usize
@@ -68,9 +74,9 @@ fn keep_useful(
     s: &[u8],
     reached: &[bool; Graph::MAX_VERTICES],
     reaching: &[bool; Graph::MAX_VERTICES],
-    kept: &mut [bool; 64],
+    kept: &mut [bool; Graph::MAX_VERTICES],
 )
-    requires { ⌜ Marked (now s) (now reached) (now reaching) × (length (now kept) ≡ 64) ⌝ }
+    requires { ⌜ Reachable (now s) (now reached) (now reaching) × (length (now kept) ≡ maxVertices) ⌝ }
     ensures { λ _. ⌜ Tells (now (s .entry)) (useful (graphOf (now (s .entry)))) (now (kept .exit)) ⌝ }
 {
     let n = wide(s[Graph::AT_VERTICES]);
@@ -84,19 +90,19 @@ fn keep_useful(
 // Lays the working network: edges, first loads, live nodes, and what has to move.
 fn lay_network(
     s: &[u8],
-    kept: &[bool; 64],
-    rows: &[[u8; 64]; 16],
-    lens: &[usize; 16],
+    kept: &[bool; Graph::MAX_VERTICES],
+    rows: &[[u8; ROW]; ROWS],
+    lens: &[usize; ROWS],
     count: usize,
     vertex_reads: &[usize; Graph::MAX_VERTICES],
     arc_reads: &[usize; Graph::MAX_ARCS],
-    from: &mut [usize; 464],
-    to: &mut [usize; 464],
-    cost: &mut [u64; 464],
-    full: &mut [u64; 464],
-    live: &mut [bool; 129],
-    surplus: &mut [u64; 129],
-    deficit: &mut [u64; 129],
+    from: &mut [usize; EDGES],
+    to: &mut [usize; EDGES],
+    cost: &mut [u64; EDGES],
+    full: &mut [u64; EDGES],
+    live: &mut [bool; NODES],
+    surplus: &mut [u64; NODES],
+    deficit: &mut [u64; NODES],
 )
     requires { ⌜ Layable (now s) (now kept) ⌝ }
     requires { ⌜ ReadsReady (now s) (now rows) (now lens) count (now «vertex_reads») (now «arc_reads») ⌝ }
@@ -123,25 +129,25 @@ fn lay_network(
 fn carry(
     nodes: usize,
     plain: usize,
-    live: &[bool; 129],
-    from: &[usize; 464],
-    to: &[usize; 464],
-    cost: &[u64; 464],
-    load: &mut [u64; 464],
-    mark: &mut [u64; 129],
-    surplus: &mut [u64; 129],
-    deficit: &mut [u64; 129],
+    live: &[bool; NODES],
+    from: &[usize; EDGES],
+    to: &[usize; EDGES],
+    cost: &[u64; EDGES],
+    load: &mut [u64; EDGES],
+    mark: &mut [u64; NODES],
+    surplus: &mut [u64; NODES],
+    deficit: &mut [u64; NODES],
 )
     requires { ⌜ Shape nodes plain (now live) (now from) (now to) (now cost) ⌝ }
     requires { ⌜ Waiting nodes plain (now live) (now load) (now mark) (now surplus) (now deficit) ⌝ }
-    ensures { λ _. ⌜ ((given wanted : ℕ → ℕ) → ((u : ℕ) → u < nodes → at (now (surplus .entry)) u + wanted u ≡ at (now (deficit .entry)) u + given u) → Carried nodes plain (now (live .entry)) (now (from .entry)) (now (to .entry)) (now (cost .entry)) (now (load .exit)) (now (mark .exit)) given wanted (sumTo nodes (λ u. at (now (surplus .entry)) u))) ⌝ }
-    ensures { λ _. ⌜ (length (now (load .exit)) ≡ 464) × (length (now (mark .exit)) ≡ 129) ⌝ }
+    ensures { λ _. ⌜ ((given wanted : ℕ → ℕ) → ((u : ℕ) → u < nodes → nth (now (surplus .entry)) u + wanted u ≡ nth (now (deficit .entry)) u + given u) → Carried nodes plain (now (live .entry)) (now (from .entry)) (now (to .entry)) (now (cost .entry)) (now (load .exit)) (now (mark .exit)) given wanted (sumTo nodes (λ u. nth (now (surplus .entry)) u))) ⌝ }
+    ensures { λ _. ⌜ (length (now (load .exit)) ≡ mostEdges) × (length (now (mark .exit)) ≡ mostNodes) ⌝ }
 {
-    let mut headout = [0usize; 129];
-    let mut nextout = [0usize; 464];
+    let mut headout = [0usize; NODES];
+    let mut nextout = [0usize; EDGES];
     chain(nodes, plain, from, &mut headout, &mut nextout);
-    let mut headin = [0usize; 129];
-    let mut nextin = [0usize; 464];
+    let mut headin = [0usize; NODES];
+    let mut nextin = [0usize; EDGES];
     chain(nodes, plain, to, &mut headin, &mut nextin);
     carry_all(
         nodes,
@@ -164,12 +170,12 @@ fn carry(
 // Adds what the flow carries on edge e to its first load. A loop stands for a link that is not in use: what may lie on it goes nowhere, and is dropped.
 fn add_load(
     e: usize,
-    from: &[usize; 464],
-    to: &[usize; 464],
-    load: &mut [u64; 464],
-    full: &mut [u64; 464],
+    from: &[usize; EDGES],
+    to: &[usize; EDGES],
+    load: &mut [u64; EDGES],
+    full: &mut [u64; EDGES],
 )
-    requires { ⌜ (e < 464) × (at (now load) e ≤ 320_000_016) × (at (now full) e ≤ 1_000_000) ⌝ }
+    requires { ⌜ (e < mostEdges) × (nth (now load) e ≤ mostMoved) × (nth (now full) e ≤ maxDemand) ⌝ }
     ensures { λ _. ⌜ OneAdded e (now (from .entry)) (now (to .entry)) (now (load .entry)) (now (full .entry)) (now (load .exit)) (now (full .exit)) ⌝ }
 {
     if from[e] == to[e] {
@@ -182,13 +188,13 @@ fn add_load(
 // Adds what the flow carries to all first loads but those of the reads.
 fn add_loads(
     plain: usize,
-    from: &[usize; 464],
-    to: &[usize; 464],
-    load: &mut [u64; 464],
-    full: &mut [u64; 464],
+    from: &[usize; EDGES],
+    to: &[usize; EDGES],
+    load: &mut [u64; EDGES],
+    full: &mut [u64; EDGES],
 )
-    requires { ⌜ (plain ≤ 464) × (length (now load) ≡ 464) × (length (now full) ≡ 464) ⌝ }
-    requires { ⌜ ((e : ℕ) → e < plain → (at (now load) e ≤ 320_000_016) × (at (now full) e ≤ 1_000_000)) ⌝ }
+    requires { ⌜ (plain ≤ mostEdges) × (length (now load) ≡ mostEdges) × (length (now full) ≡ mostEdges) ⌝ }
+    requires { ⌜ ((e : ℕ) → e < plain → (nth (now load) e ≤ mostMoved) × (nth (now full) e ≤ maxDemand)) ⌝ }
     ensures { λ _. ⌜ Added plain (now (from .entry)) (now (to .entry)) (now (load .entry)) (now (full .entry)) (now (load .exit)) (now (full .exit)) ⌝ }
 {
     let mut e: usize = 0;
@@ -202,25 +208,25 @@ fn add_loads(
 fn take_paths(
     s: &[u8],
     count: usize,
-    from: &[usize; 464],
-    to: &[usize; 464],
-    rows: &[[u8; 64]; 16],
-    lens: &[usize; 16],
-    full: &mut [u64; 464],
-    paths: &mut [[u8; 64]; 464],
-    sizes: &mut [usize; 464],
-    weights: &mut [u64; 464],
+    from: &[usize; EDGES],
+    to: &[usize; EDGES],
+    rows: &[[u8; ROW]; ROWS],
+    lens: &[usize; ROWS],
+    full: &mut [u64; EDGES],
+    paths: &mut [[u8; ROW]; EDGES],
+    sizes: &mut [usize; EDGES],
+    weights: &mut [u64; EDGES],
 ) -> usize
     requires { ⌜ Reads (now s) × Coverable (graphOf (now s)) × Leaves (now rows) (now lens) count (preparedOf (now s)) × Loaded (now s) (now from) (now to) (now full) ⌝ }
-    requires { ⌜ (length (now paths) ≡ 464) × (length (now sizes) ≡ 464) × (length (now weights) ≡ 464) ⌝ }
+    requires { ⌜ (length (now paths) ≡ mostEdges) × (length (now sizes) ≡ mostEdges) × (length (now weights) ≡ mostEdges) ⌝ }
     ensures { λ r. ⌜ Peeled (now (s .entry)) (now (full .entry)) (collected (now (paths .exit)) (now (sizes .exit)) (now (weights .exit)) r) × PathTable (now (paths .exit)) (now (sizes .exit)) (now (weights .exit)) r ⌝ }
 {
     let n = wide(s[Graph::AT_VERTICES]);
     let m = be16(s, Graph::AT_ARCS);
     let plain = 3 * n + m;
     let edges = plain + count;
-    let mut head = [0usize; 129];
-    let mut next = [0usize; 464];
+    let mut head = [0usize; NODES];
+    let mut next = [0usize; EDGES];
     chain(2 * n + 1, edges, from, &mut head, &mut next);
     peel_all(
         s,
@@ -243,29 +249,29 @@ fn take_paths(
 // Finds the flow of lowest cost: marks of the nodes, and what each link carries in all.
 fn flow(
     s: &[u8],
-    kept: &[bool; 64],
-    rows: &[[u8; 64]; 16],
-    lens: &[usize; 16],
+    kept: &[bool; Graph::MAX_VERTICES],
+    rows: &[[u8; ROW]; ROWS],
+    lens: &[usize; ROWS],
     count: usize,
     vertex_reads: &[usize; Graph::MAX_VERTICES],
     arc_reads: &[usize; Graph::MAX_ARCS],
-    from: &mut [usize; 464],
-    to: &mut [usize; 464],
-    mark: &mut [u64; 129],
-    full: &mut [u64; 464],
+    from: &mut [usize; EDGES],
+    to: &mut [usize; EDGES],
+    mark: &mut [u64; NODES],
+    full: &mut [u64; EDGES],
 )
     requires { ⌜ Layable (now s) (now kept) ⌝ }
     requires { ⌜ ReadsReady (now s) (now rows) (now lens) count (now «vertex_reads») (now «arc_reads») ⌝ }
-    requires { ⌜ (length (now from) ≡ 464) × (length (now to) ≡ 464) × (length (now full) ≡ 464) × AtBase (now mark) ⌝ }
+    requires { ⌜ (length (now from) ≡ mostEdges) × (length (now to) ≡ mostEdges) × (length (now full) ≡ mostEdges) × AtBase (now mark) ⌝ }
     ensures { λ _. ⌜ Flowed (now (s .entry)) (now (from .exit)) (now (to .exit)) (now (mark .exit)) (now (full .exit)) ⌝ }
 {
     let n = wide(s[Graph::AT_VERTICES]);
     let m = be16(s, Graph::AT_ARCS);
     let plain = 3 * n + m;
-    let mut cost = [0u64; 464];
-    let mut live = [false; 129];
-    let mut surplus = [0u64; 129];
-    let mut deficit = [0u64; 129];
+    let mut cost = [0u64; EDGES];
+    let mut live = [false; NODES];
+    let mut surplus = [0u64; NODES];
+    let mut deficit = [0u64; NODES];
     lay_network(
         s,
         kept,
@@ -282,7 +288,7 @@ fn flow(
         &mut surplus,
         &mut deficit,
     );
-    let mut load = [0u64; 464];
+    let mut load = [0u64; EDGES];
     carry(
         2 * n + 1,
         plain,
@@ -305,22 +311,22 @@ fn answer(
     reaching: &[bool; Graph::MAX_VERTICES],
     out: &mut [u8],
 ) -> usize
-    requires { ⌜ Marked (now s) (now reached) (now reaching) × Coverable (graphOf (now s)) × (graphVerdict (now s) .number ≡ 0) ⌝ }
-    requires { ⌜ 32_543 ≤ length (now out) ⌝ }
+    requires { ⌜ Reachable (now s) (now reached) (now reaching) × Coverable (graphOf (now s)) × (graphVerdict (now s) .number ≡ 0) ⌝ }
+    requires { ⌜ longestAnswer ≤ length (now out) ⌝ }
     ensures { λ r. ⌜ Answered (now (s .entry)) (now (out .entry)) (now (out .exit)) r ⌝ }
 {
     let n = wide(s[Graph::AT_VERTICES]);
-    let mut kept = [false; 64];
+    let mut kept = [false; Graph::MAX_VERTICES];
     keep_useful(s, reached, reaching, &mut kept);
-    let mut rows = [[0u8; 64]; 16];
-    let mut lens = [0usize; 16];
-    let mut vertex_reads = [0usize; 64];
-    let mut arc_reads = [0usize; 256];
+    let mut rows = [[0u8; ROW]; ROWS];
+    let mut lens = [0usize; ROWS];
+    let mut vertex_reads = [0usize; Graph::MAX_VERTICES];
+    let mut arc_reads = [0usize; Graph::MAX_ARCS];
     let count = prepare_table(s, &mut rows, &mut lens, &mut vertex_reads, &mut arc_reads);
-    let mut from = [0usize; 464];
-    let mut to = [0usize; 464];
-    let mut mark = [2_000_000_000u64; 129];
-    let mut full = [0u64; 464];
+    let mut from = [0usize; EDGES];
+    let mut to = [0usize; EDGES];
+    let mut mark = [BASE; NODES];
+    let mut full = [0u64; EDGES];
     flow(
         s,
         &kept,
@@ -334,13 +340,13 @@ fn answer(
         &mut mark,
         &mut full,
     );
-    let mut into = [0u64; 64];
-    let mut outof = [0u64; 64];
+    let mut into = [0u64; Graph::MAX_VERTICES];
+    let mut outof = [0u64; Graph::MAX_VERTICES];
     final_marks(s, reached, reaching, &mark, &mut into, &mut outof);
     let price = final_price(s, &full, &arc_reads);
-    let mut paths = [[0u8; 64]; 464];
-    let mut sizes = [0usize; 464];
-    let mut weights = [0u64; 464];
+    let mut paths = [[0u8; ROW]; EDGES];
+    let mut sizes = [0usize; EDGES];
+    let mut weights = [0u64; EDGES];
     let found = take_paths(
         s,
         count,
@@ -391,8 +397,8 @@ pub fn build(graph: &[u8], out: &mut [u8]) -> Built
             written: 0,
         };
     }
-    let mut reached = [false; 64];
-    let mut reaching = [false; 64];
+    let mut reached = [false; Graph::MAX_VERTICES];
+    let mut reaching = [false; Graph::MAX_VERTICES];
     reach_from_starts(graph, &mut reached);
     reach_ends(graph, &mut reaching);
     let lacking = first_lacking(graph, &reached, &reaching);

@@ -3,6 +3,11 @@ use checker::Graph;
 use forms::bytes::be16;
 use forms::bytes::be32;
 use forms::bytes::wide;
+use network::BASE;
+use network::EDGES;
+use network::NODES;
+use network::SPAN;
+use reads::ROW;
 ghost use mathlib.Core.Path.{_≡_};
 ghost use Prim.Native.Nat.{_+_, _*_, _-_, _<_, _≤_};
 ghost use mathlib.Core.Bool.{cond, _&&_};
@@ -10,22 +15,32 @@ ghost use lib.IntN.{subℕ};
 ghost use lib.ListN.{length, getD, take};
 ghost use mathlib.Core.List.{[]};
 ghost use Rattle.checker.specs.Encode.{bytes16, bytes32, bytes64, word32, markBytes, pathRecord, pathBytes, encodeAnswer};
-ghost use Rattle.network.specs.Network.{at, sumTo, base, reach};
+ghost use Rattle.network.specs.Network.{nth, sumTo, base, mostEdges, mostMoved, span, highest};
 ghost use Rattle.paths.specs.Peel.{collectedAt, collected};
-ghost use Rattle.reach.specs.Reached.{Marked};
-ghost use Rattle.builder.specs.Finish.{Placed, heldMarks, Writable, PathsFit, MarksHeld, Priced, priceFrom};
+ghost use Rattle.reach.specs.Reached.{Reachable};
+ghost use Rattle.builder.specs.Finish.{Placed, heldMarks, Writable, PathsFit, MarksHeld, Priced, priceFrom, longestRecord};
+ghost use Rattle.reads.specs.ReadTable.{rowLength};
+ghost use Rattle.forms.specs.Limits.{maxVertices, longestAnswer};
 
-// The mark of a side of a vertex, held with 2,000,000,000 added: its node's where the vertex is useful; the greatest where no start leads to it; else the least.
+// The least and the greatest mark, as they are held, with the base added.
+const LOWEST: u64 = BASE - SPAN;
+
+const HIGHEST: u64 = BASE + SPAN;
+
+// What a held mark below 0 lacks to its two's complement in 32 bits.
+const NEGATIVE: u64 = 4_294_967_296 - BASE;
+
+// The mark of a side of a vertex, held with the base added: its node's where the vertex is useful; the greatest where no start leads to it; else the least.
 fn side_mark(reached: bool, reaching: bool, own: u64) -> u64
-    ensures { λ r. ⌜ r ≡ cond (reached && reaching) own (cond reached (base - reach) (base + reach)) ⌝ }
+    ensures { λ r. ⌜ r ≡ cond (reached && reaching) own (cond reached (base - span) highest) ⌝ }
 {
     if reached {
         if reaching {
             return own;
         }
-        return 937_000_000;
+        return LOWEST;
     }
-    3_063_000_000
+    HIGHEST
 }
 
 // The final marks of all vertices.
@@ -33,12 +48,12 @@ pub fn final_marks(
     s: &[u8],
     reached: &[bool; Graph::MAX_VERTICES],
     reaching: &[bool; Graph::MAX_VERTICES],
-    mark: &[u64; 129],
-    into: &mut [u64; 64],
-    outof: &mut [u64; 64],
+    mark: &[u64; NODES],
+    into: &mut [u64; Graph::MAX_VERTICES],
+    outof: &mut [u64; Graph::MAX_VERTICES],
 )
-    requires { ⌜ Marked (now s) (now reached) (now reaching) ⌝ }
-    requires { ⌜ (length (now into) ≡ 64) × (length (now outof) ≡ 64) ⌝ }
+    requires { ⌜ Reachable (now s) (now reached) (now reaching) ⌝ }
+    requires { ⌜ (length (now into) ≡ maxVertices) × (length (now outof) ≡ maxVertices) ⌝ }
     ensures { λ _. ⌜ MarksHeld (now (s .entry)) (now (mark .entry)) (now (into .exit)) (now (outof .exit)) ⌝ }
 {
     let n = wide(s[Graph::AT_VERTICES]);
@@ -51,9 +66,9 @@ pub fn final_marks(
 }
 
 // How many copies the loads open: those on the n openings, which stand from `first` on.
-fn copies(n: usize, first: usize, full: &[u64; 464]) -> u64
-    requires { ⌜ (n ≤ 64) × (first ≤ 320) × (sumTo n (λ k. at (now full) (first + k)) ≤ 320_000_016) ⌝ }
-    ensures { λ r. ⌜ r ≡ sumTo n (λ k. at (now (full .entry)) (first + k)) ⌝ }
+fn copies(n: usize, first: usize, full: &[u64; EDGES]) -> u64
+    requires { ⌜ (first + n ≤ mostEdges) × (sumTo n (λ k. nth (now full) (first + k)) ≤ mostMoved) ⌝ }
+    ensures { λ r. ⌜ r ≡ sumTo n (λ k. nth (now (full .entry)) (first + k)) ⌝ }
 {
     let mut sum: u64 = 0;
     let mut k: usize = 0;
@@ -65,7 +80,7 @@ fn copies(n: usize, first: usize, full: &[u64; 464]) -> u64
 }
 
 // The price: the opening price for each copy, and for each arc its cost for each copy through it.
-pub fn final_price(s: &[u8], full: &[u64; 464], arc_reads: &[usize; Graph::MAX_ARCS]) -> u64
+pub fn final_price(s: &[u8], full: &[u64; EDGES], arc_reads: &[usize; Graph::MAX_ARCS]) -> u64
     requires { ⌜ Priced (now s) (now full) (now «arc_reads») ⌝ }
     ensures { λ r. ⌜ r ≡ priceFrom (now (s .entry)) (now (full .entry)) ⌝ }
 {
@@ -109,22 +124,28 @@ fn put64(out: &mut [u8], place: usize, v: u64)
     put32(out, place + 4, v % 4_294_967_296);
 }
 
-// Puts a mark, which is held with 2,000,000,000 added, as a signed number in two's complement.
+// Puts a mark, which is held with the base added, as a signed number in two's complement.
 fn put_mark(out: &mut [u8], place: usize, plus: u64)
-    requires { ⌜ (place + 4 ≤ length (now out)) × (plus ≤ 4_000_000_000) ⌝ }
+    requires { ⌜ (place + 4 ≤ length (now out)) × (plus ≤ 2 * base) ⌝ }
     ensures { λ _. ⌜ Placed (now (out .entry)) place (bytes32 (word32 (subℕ plus base))) (now (out .exit)) ⌝ }
 {
-    if plus < 2_000_000_000 {
-        put32(out, place, plus + 2_294_967_296);
+    if plus < BASE {
+        put32(out, place, plus + NEGATIVE);
     } else {
-        put32(out, place, plus - 2_000_000_000);
+        put32(out, place, plus - BASE);
     }
 }
 
 // Puts the two marks of each of n vertices.
-fn put_marks(out: &mut [u8], place: usize, n: usize, into: &[u64; 64], outof: &[u64; 64])
+fn put_marks(
+    out: &mut [u8],
+    place: usize,
+    n: usize,
+    into: &[u64; Graph::MAX_VERTICES],
+    outof: &[u64; Graph::MAX_VERTICES],
+)
     requires { ⌜ (place + 8 * n ≤ length (now out)) × Writable n (now into) (now outof) ⌝ }
-    ensures { λ _. ⌜ Placed (now (out .entry)) place (markBytes (heldMarks (at (now (into .entry))) (at (now (outof .entry)))) n 0) (now (out .exit)) ⌝ }
+    ensures { λ _. ⌜ Placed (now (out .entry)) place (markBytes (heldMarks (nth (now (into .entry))) (nth (now (outof .entry)))) n 0) (now (out .exit)) ⌝ }
 {
     let mut v: usize = 0;
     while v < n {
@@ -135,8 +156,8 @@ fn put_marks(out: &mut [u8], place: usize, n: usize, into: &[u64; 64], outof: &[
 }
 
 // Puts the vertices of the path in row i.
-fn put_vertices(out: &mut [u8], place: usize, rows: &[[u8; 64]; 464], i: usize, len: usize)
-    requires { ⌜ (place + len ≤ length (now out)) × (i < 464) × (len ≤ 64) × (length (getD (now rows) i []) ≡ 64) ⌝ }
+fn put_vertices(out: &mut [u8], place: usize, rows: &[[u8; ROW]; EDGES], i: usize, len: usize)
+    requires { ⌜ (place + len ≤ length (now out)) × (i < mostEdges) × (len ≤ rowLength) × (length (getD (now rows) i []) ≡ rowLength) ⌝ }
     ensures { λ _. ⌜ Placed (now (out .entry)) place (take len (getD (now (rows .entry)) i [])) (now (out .exit)) ⌝ }
 {
     let mut j: usize = 0;
@@ -150,12 +171,12 @@ fn put_vertices(out: &mut [u8], place: usize, rows: &[[u8; 64]; 464], i: usize, 
 fn put_path(
     out: &mut [u8],
     place: usize,
-    rows: &[[u8; 64]; 464],
-    lens: &[usize; 464],
-    weights: &[u64; 464],
+    rows: &[[u8; ROW]; EDGES],
+    lens: &[usize; EDGES],
+    weights: &[u64; EDGES],
     i: usize,
 )
-    requires { ⌜ (place + 69 ≤ length (now out)) × (i < 464) × (at (now lens) i ≤ 64) × (at (now weights) i < 4_294_967_296) × (length (getD (now rows) i []) ≡ 64) ⌝ }
+    requires { ⌜ (place + longestRecord ≤ length (now out)) × (i < mostEdges) × (nth (now lens) i ≤ rowLength) × (nth (now weights) i < 4_294_967_296) × (length (getD (now rows) i []) ≡ rowLength) ⌝ }
     ensures { λ _. ⌜ Placed (now (out .entry)) place (pathRecord (collectedAt (now (rows .entry)) (now (lens .entry)) (now (weights .entry)) i)) (now (out .exit)) ⌝ }
 {
     put32(out, place, weights[i]);
@@ -168,14 +189,14 @@ fn put_path(
 fn put_paths(
     out: &mut [u8],
     place: usize,
-    rows: &[[u8; 64]; 464],
-    lens: &[usize; 464],
-    weights: &[u64; 464],
+    rows: &[[u8; ROW]; EDGES],
+    lens: &[usize; EDGES],
+    weights: &[u64; EDGES],
     count: usize,
 ) -> usize
-    requires { ⌜ (place + 69 * count ≤ length (now out)) × PathsFit (now rows) (now lens) (now weights) count ⌝ }
+    requires { ⌜ (place + longestRecord * count ≤ length (now out)) × PathsFit (now rows) (now lens) (now weights) count ⌝ }
     ensures { λ r. ⌜ Placed (now (out .entry)) place (pathBytes (collected (now (rows .entry)) (now (lens .entry)) (now (weights .entry)) count)) (now (out .exit)) ⌝ }
-    ensures { λ r. ⌜ (r ≡ place + length (pathBytes (collected (now (rows .entry)) (now (lens .entry)) (now (weights .entry)) count))) × (r ≤ place + 69 * count) ⌝ }
+    ensures { λ r. ⌜ (r ≡ place + length (pathBytes (collected (now (rows .entry)) (now (lens .entry)) (now (weights .entry)) count))) × (r ≤ place + longestRecord * count) ⌝ }
 {
     let mut end = place;
     let mut i: usize = 0;
@@ -192,18 +213,18 @@ pub fn write_answer(
     out: &mut [u8],
     n: usize,
     price: u64,
-    into: &[u64; 64],
-    outof: &[u64; 64],
-    rows: &[[u8; 64]; 464],
-    lens: &[usize; 464],
-    weights: &[u64; 464],
+    into: &[u64; Graph::MAX_VERTICES],
+    outof: &[u64; Graph::MAX_VERTICES],
+    rows: &[[u8; ROW]; EDGES],
+    lens: &[usize; EDGES],
+    weights: &[u64; EDGES],
     count: usize,
 ) -> usize
-    requires { ⌜ 32_543 ≤ length (now out) ⌝ }
+    requires { ⌜ longestAnswer ≤ length (now out) ⌝ }
     requires { ⌜ Writable n (now into) (now outof) ⌝ }
     requires { ⌜ PathsFit (now rows) (now lens) (now weights) count ⌝ }
-    ensures { λ r. ⌜ Placed (now (out .entry)) 0 (encodeAnswer n price (heldMarks (at (now (into .entry))) (at (now (outof .entry)))) (collected (now (rows .entry)) (now (lens .entry)) (now (weights .entry)) count)) (now (out .exit)) ⌝ }
-    ensures { λ r. ⌜ r ≡ length (encodeAnswer n price (heldMarks (at (now (into .entry))) (at (now (outof .entry)))) (collected (now (rows .entry)) (now (lens .entry)) (now (weights .entry)) count)) ⌝ }
+    ensures { λ r. ⌜ Placed (now (out .entry)) 0 (encodeAnswer n price (heldMarks (nth (now (into .entry))) (nth (now (outof .entry)))) (collected (now (rows .entry)) (now (lens .entry)) (now (weights .entry)) count)) (now (out .exit)) ⌝ }
+    ensures { λ r. ⌜ r ≡ length (encodeAnswer n price (heldMarks (nth (now (into .entry))) (nth (now (outof .entry)))) (collected (now (rows .entry)) (now (lens .entry)) (now (weights .entry)) count)) ⌝ }
 {
     out[4] = 1;
     put16(out, 5, count as u64);

@@ -1,11 +1,15 @@
 -- `builder::build::answer` meets its contract: marks, price and paths come from one flow, and their answer form is accepted. Assumes nothing.
 use Rattle.builder.proofs.FinishLawsEnd.{priced, writable, paths-fit, answered}
-use Rattle.builder.proofs.FinishLawsStages.{blank-table, blank-counts, all-base}
+use Rattle.reads.proofs.TableRows.{blank-table}
+use Rattle.builder.proofs.FinishLawsStages.{blank-counts, all-base}
 use mathlib.Core.List.{List}
 use Prim.Native.Nat.{ℕ}
 use lib.ListN.{replicate, length-replicate}
 use native.Mathlib.Omega.{arith}
 use borrow.Author.Needs.{needs}
+use Rattle.network.specs.Network.{mostEdges}
+use Rattle.reads.specs.ReadTable.{rowLength}
+use Rattle.forms.specs.Limits.{maxVertices}
 use Rattle.builder.proofs.build.answer.Statement.{statement}
 use Rattle.builder.proofs.build.answer.Tie as tie
 
@@ -22,16 +26,16 @@ prepare-table-requires : tie.Need-prepare-table-requires
 prepare-table-requires c κs = (c .before .before .before .before .before .before .before .before .before .before .pre .0 .0 .reads, blank-table, blank-counts _)
 
 flow-requires : tie.Need-flow-requires
-flow-requires c κs = (record { reads = c .before .before .before .before .before .before .before .before .before .before .before .before .before .before .before .before .before .before .before .before .pre .0 .0 .reads; coverable = c .before .before .before .before .before .before .before .before .before .before .before .before .before .before .before .before .before .before .before .before .pre .0 .1; marked = c .before .before .before .before .before .before .before .before .before .before .before .before .before .before .keep-useful .ensures }, (c .before .before .before .before .before .before .before .before .before .prepare-table .ensures, (length-replicate {A = ℕ} 464 0, length-replicate {A = ℕ} 464 0, length-replicate {A = ℕ} 464 0, all-base)))
+flow-requires c κs = (record { reads = c .before .before .before .before .before .before .before .before .before .before .before .before .before .before .before .before .before .before .before .before .pre .0 .0 .reads; coverable = c .before .before .before .before .before .before .before .before .before .before .before .before .before .before .before .before .before .before .before .before .pre .0 .1; marked = c .before .before .before .before .before .before .before .before .before .before .before .before .before .before .keep-useful .ensures }, (c .before .before .before .before .before .before .before .before .before .prepare-table .ensures, (length-replicate {A = ℕ} mostEdges 0, length-replicate {A = ℕ} mostEdges 0, length-replicate {A = ℕ} mostEdges 0, all-base)))
 
 final-marks-requires : tie.Need-final-marks-requires
-final-marks-requires c κs = (c .before .before .before .before .before .before .before .before .before .before .before .before .before .before .before .before .before .before .before .before .before .before .before .before .pre .0 .0, (length-replicate {A = ℕ} 64 0, length-replicate {A = ℕ} 64 0))
+final-marks-requires c κs = (c .before .before .before .before .before .before .before .before .before .before .before .before .before .before .before .before .before .before .before .before .before .before .before .before .pre .0 .0, (length-replicate {A = ℕ} maxVertices 0, length-replicate {A = ℕ} maxVertices 0))
 
 final-price-requires : tie.Need-final-price-requires
 final-price-requires c κs = priced _ (c .before .before .before .before .before .before .before .before .before .before .before .before .before .before .before .before .before .before .before .before .before .before .before .before .before .before .before .pre .0 .0 .reads) _ _ _ _ (c .before .before .before .before .before .before .flow .ensures) _ (c .before .before .before .before .before .before .before .before .before .before .before .before .before .before .before .before .prepare-table .ensures .arcs)
 
 take-paths-requires : tie.Need-take-paths-requires
-take-paths-requires c κs = ((c .before .before .before .before .before .before .before .before .before .before .before .before .before .before .before .before .before .before .before .before .before .before .before .before .before .before .before .before .before .before .before .before .before .before .before .before .pre .0 .0 .reads, c .before .before .before .before .before .before .before .before .before .before .before .before .before .before .before .before .before .before .before .before .before .before .before .before .before .before .before .before .before .before .before .before .before .before .before .before .pre .0 .1, c .before .before .before .before .before .before .before .before .before .before .before .before .before .before .before .before .before .before .before .before .before .before .before .before .before .prepare-table .ensures .table, c .before .before .before .before .before .before .before .before .before .before .before .before .before .before .before .flow .ensures .loaded), (length-replicate {A = List ℕ} 464 (replicate 64 0), length-replicate {A = ℕ} 464 0, length-replicate {A = ℕ} 464 0))
+take-paths-requires c κs = ((c .before .before .before .before .before .before .before .before .before .before .before .before .before .before .before .before .before .before .before .before .before .before .before .before .before .before .before .before .before .before .before .before .before .before .before .before .pre .0 .0 .reads, c .before .before .before .before .before .before .before .before .before .before .before .before .before .before .before .before .before .before .before .before .before .before .before .before .before .before .before .before .before .before .before .before .before .before .before .before .pre .0 .1, c .before .before .before .before .before .before .before .before .before .before .before .before .before .before .before .before .before .before .before .before .before .before .before .before .before .prepare-table .ensures .table, c .before .before .before .before .before .before .before .before .before .before .before .before .before .before .before .flow .ensures .loaded), (length-replicate {A = List ℕ} mostEdges (replicate rowLength 0), length-replicate {A = ℕ} mostEdges 0, length-replicate {A = ℕ} mostEdges 0))
 
 write-answer-requires : tie.Need-write-answer-requires
 write-answer-requires c κs = (omega (arith, c .before .before .before .before .before .before .before .before .before .before .before .before .before .before .before .before .before .before .before .before .before .before .before .before .before .before .before .before .before .before .before .before .before .before .before .before .before .before .before .before .before .before .before .pre .1), (writable _ (c .before .before .before .before .before .before .before .before .before .before .before .before .before .before .before .before .before .before .before .before .before .before .before .before .before .before .before .before .before .before .before .before .before .before .before .before .before .before .before .before .before .before .before .pre .0 .0 .reads) _ _ _ _ (c .before .before .before .before .before .before .before .before .before .before .before .before .before .before .before .before .before .before .before .before .before .before .flow .ensures) _ _ (c .before .before .before .before .before .before .before .before .before .before .before .before .before .before .before .before .before .before .final-marks .ensures) _ (c .before .before .before .before .before .before .before .before .before .before .before .before .before .before .before .before .before .before .before .before .before .before .before .before .before .before .before .before .before .before .before .before .before .before .before .before .before .before .before .wide .ensures .0), paths-fit _ _ _ _ _ _ (c .before .before .before .before .before .before .take-paths .ensures .1) (c .before .before .before .before .before .before .take-paths .ensures .0) (c .before .before .before .before .before .before .before .before .before .before .before .before .before .before .before .before .before .before .before .before .before .before .flow .ensures .loaded .few)))

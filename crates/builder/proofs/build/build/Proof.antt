@@ -3,6 +3,7 @@ use Rattle.builder.proofs.FinishLawsPromise.{promise-unread, reads-then
 use mathlib.Core.Bool.{Bool, false}
 use lib.ListN.{length-replicate}
 use borrow.Author.Needs.{needs}
+use Rattle.forms.specs.Limits.{maxVertices}
 use Rattle.builder.proofs.build.build.Statement.{statement}
 use Rattle.builder.proofs.build.build.Tie as tie
 
@@ -13,10 +14,10 @@ returns : tie.Need-returns
 returns c = promise-unread _ _ _ (c .before .before .read-graph .ensures) (c .if1 .taken)
 
 reach-from-starts-requires : tie.Need-reach-from-starts-requires
-reach-from-starts-requires c κs = (reads-then _ (c .before .before .before .before .before .before .args .out .now) _ (c .before .before .before .read-graph .ensures) (c .before .if1 .left), length-replicate {A = Bool} 64 false)
+reach-from-starts-requires c κs = (reads-then _ (c .before .before .before .before .before .before .args .out .now) _ (c .before .before .before .read-graph .ensures) (c .before .if1 .left), length-replicate {A = Bool} maxVertices false)
 
 reach-ends-requires : tie.Need-reach-ends-requires
-reach-ends-requires c κs = (reads-then _ (c .before .before .before .before .before .before .before .before .args .out .now) _ (c .before .before .before .before .before .read-graph .ensures) (c .before .before .before .if1 .left), length-replicate {A = Bool} 64 false)
+reach-ends-requires c κs = (reads-then _ (c .before .before .before .before .before .before .before .before .args .out .now) _ (c .before .before .before .before .before .read-graph .ensures) (c .before .before .before .if1 .left), length-replicate {A = Bool} maxVertices false)
 
 first-lacking-requires : tie.Need-first-lacking-requires
 first-lacking-requires c κs = record { reads = reads-then _ (c .before .before .before .before .before .before .before .before .before .before .before .args .out .now) _ (c .before .before .before .before .before .before .before .before .read-graph .ensures) (c .before .before .before .before .before .before .if1 .left); starts = c .before .before .before .before .reach-from-starts .ensures; ends = c .before .before .reach-ends .ensures }

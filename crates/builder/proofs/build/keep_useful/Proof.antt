@@ -8,11 +8,12 @@ use mathlib.Core.Path.{_≡_, ap₂, _∙_}
 use Prim.Native.Nat.{_≤_, _<_, _-_}
 use borrow.Author.Needs.{needs}
 use native.Mathlib.Omega.{arith}
+use Rattle.forms.specs.Limits.{maxVertices}
 use Rattle.builder.proofs.build.keep_useful.Statement.{statement}
 use Rattle.builder.proofs.build.keep_useful.Tie as tie
 
 abbrev Inv-loop : tie.InvT-loop
-Inv-loop s reached reaching kept₀ n v₀ kept v = (v ≤ n) × (n ≡ vertexCount s) × (n ≤ 64) × Filled 64 false (useful (graphOf s)) kept v
+Inv-loop s reached reaching kept₀ n v₀ kept v = (v ≤ n) × (n ≡ vertexCount s) × (n ≤ maxVertices) × Filled maxVertices false (useful (graphOf s)) kept v
 
 abbrev μ-loop : tie.MeasureT-loop
 μ-loop s reached reaching kept₀ n v₀ kept v = n - v

@@ -4,6 +4,7 @@ use Prim.Native.Nat.{ℕ}
 use lib.ListN.{length-replicate}
 use native.Mathlib.Omega.{arith}
 use borrow.Author.Needs.{needs}
+use Rattle.network.specs.Network.{mostNodes, mostEdges}
 use Rattle.builder.proofs.build.take_paths.Statement.{statement}
 use Rattle.builder.proofs.build.take_paths.Tie as tie
 
@@ -32,7 +33,7 @@ add-chain : tie.Need-add-chain
 add-chain c = search needs
 
 chain-requires : tie.Need-chain-requires
-chain-requires c κs = let p = c .before .before .before .before .before .before .pre .0 in all-keys _ (p .0) (p .1) _ _ _ (c .before .before .before .wide .ensures .0) (c .before .before .be16 .ensures .0) (leaves-count _ _ _ _ (p .2)) _ _ _ (p .3) _ _ (p .2 .table .counted) (length-replicate {A = ℕ} 129 0) (length-replicate {A = ℕ} 464 0)
+chain-requires c κs = let p = c .before .before .before .before .before .before .pre .0 in all-keys _ (p .0) (p .1) _ _ _ (c .before .before .before .wide .ensures .0) (c .before .before .be16 .ensures .0) (leaves-count _ _ _ _ (p .2)) _ _ _ (p .3) _ _ (p .2 .table .counted) (length-replicate {A = ℕ} mostNodes 0) (length-replicate {A = ℕ} mostEdges 0)
 
 peel-all-requires : tie.Need-peel-all-requires
 peel-all-requires c κs = let p = c .before .before .before .before .before .before .before .before .before .before .before .before .before .pre .0 in let q = c .before .before .before .before .before .before .before .before .before .before .before .before .before .pre .1 in let en = c .before .before .before .before .before .before .before .before .before .before .wide .ensures .0 in let em = c .before .before .before .before .before .before .before .before .before .be16 .ensures .0 in let ec = leaves-count _ _ _ _ (p .2) in (peel-ready _ (p .0) (p .1) _ _ _ en em ec _ _ _ (p .3) _ _ _ _ (p .2) (c .before .before .before .before .before .before .chain .ensures), (p .3 .goes, (λ r h. omega (arith, p .3 .reads r h), (opens-few _ (p .0) (p .1) _ _ _ en em ec _ _ _ (p .3), (p .3 .long, q .0, q .1, q .2)))))

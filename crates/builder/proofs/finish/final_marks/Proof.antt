@@ -8,11 +8,12 @@ use mathlib.Core.Path.{_≡_}
 use Prim.Native.Nat.{_≤_, _<_, _-_}
 use native.Mathlib.Omega.{arith}
 use borrow.Author.Needs.{needs}
+use Rattle.forms.specs.Limits.{maxVertices}
 use Rattle.builder.proofs.finish.final_marks.Statement.{statement}
 use Rattle.builder.proofs.finish.final_marks.Tie as tie
 
 abbrev Inv-loop : tie.InvT-loop
-Inv-loop s reached reaching mark into₀ outof₀ n v₀ into outof v = (v ≤ n) × (n ≡ vertexCount s) × (n ≤ 64) × Filled 64 0 (heldMark s inNode mark) into v × Filled 64 0 (heldMark s outNode mark) outof v
+Inv-loop s reached reaching mark into₀ outof₀ n v₀ into outof v = (v ≤ n) × (n ≡ vertexCount s) × (n ≤ maxVertices) × Filled maxVertices 0 (heldMark s inNode mark) into v × Filled maxVertices 0 (heldMark s outNode mark) outof v
 
 abbrev μ-loop : tie.MeasureT-loop
 μ-loop s reached reaching mark into₀ outof₀ n v₀ into outof v = n - v

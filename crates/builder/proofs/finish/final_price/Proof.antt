@@ -2,7 +2,7 @@
 use Rattle.builder.proofs.FinishLaws.{price-done, cost-at}
 use Rattle.builder.proofs.FinishLaws.{copies-asked, first-price, first-fits, total-fits, next-price, next-fits}
 use Rattle.builder.specs.Finish.{arcWorth}
-use Rattle.network.specs.Network.{sumTo}
+use Rattle.network.specs.Network.{sumTo, base}
 use Rattle.forms.specs.GraphForm.{vertexCount, arcCount, openingPrice}
 use Rattle.paths.specs.Slots.{copiesOf}
 use mathlib.Core.Path.{_≡_}

@@ -1,7 +1,7 @@
 -- `builder::finish::put_marks` meets its contract. The loop's invariant: the marks of the vertices before v are put, and nothing else is changed. Assumes nothing.
 use Rattle.builder.proofs.FinishLaws.{placed-length, placed-none, marks-turn}
 use Rattle.builder.specs.Finish.{Placed, heldMarks}
-use Rattle.network.specs.Network.{at}
+use Rattle.network.specs.Network.{nth}
 use Rattle.checker.specs.Encode.{markBytes}
 use lib.ListN.{length}
 use mathlib.Core.Path.{_≡_, refl, subst}
@@ -12,7 +12,7 @@ use Rattle.builder.proofs.finish.put_marks.Statement.{statement}
 use Rattle.builder.proofs.finish.put_marks.Tie as tie
 
 abbrev Inv-loop : tie.InvT-loop
-Inv-loop out₀ place n into outof v₀ out v = (v ≤ n) × (length out ≡ length out₀) × Placed out₀ place (markBytes (heldMarks (at into) (at outof)) v 0) out
+Inv-loop out₀ place n into outof v₀ out v = (v ≤ n) × (length out ≡ length out₀) × Placed out₀ place (markBytes (heldMarks (nth into) (nth outof)) v 0) out
 
 abbrev μ-loop : tie.MeasureT-loop
 μ-loop out₀ place n into outof v₀ out v = n - v
@@ -66,7 +66,7 @@ same-length : tie.Need-same-length Inv-loop μ-loop
 same-length c = search needs
 
 returns : tie.Need-returns Inv-loop μ-loop
-returns c = let e : c .before .loop .v ≡ c .before .before .before .args .n = omega arith in subst (λ k. Placed (c .before .before .before .args .out .now) (c .before .before .before .args .place) (markBytes (heldMarks (at (c .before .before .before .args .into .now)) (at (c .before .before .before .args .outof .now))) k 0) (c .before .loop .out)) e (c .before .loop .inv .2)
+returns c = let e : c .before .loop .v ≡ c .before .before .before .args .n = omega arith in subst (λ k. Placed (c .before .before .before .args .out .now) (c .before .before .before .args .place) (markBytes (heldMarks (nth (c .before .before .before .args .into .now)) (nth (c .before .before .before .args .outof .now))) k 0) (c .before .loop .out)) e (c .before .loop .inv .2)
 
 pub put-marks-spec : {M : Type 1} → statement M
 put-marks-spec =

@@ -1,4 +1,4 @@
--- `builder::finish::put_paths` meets its contract. The loop's invariant: the records of the first i paths are put, `end` is the place behind them, and no record has more than 69 bytes. Assumes nothing.
+-- `builder::finish::put_paths` meets its contract. The loop's invariant: the records of the first i paths are put, `end` is the place behind them, and no record is longer than the longest. Assumes nothing.
 use Rattle.builder.proofs.FinishLaws.{PathsEnd, ends-none, ends-turn, paths-none, paths-turn, placed-length}
 use Rattle.builder.specs.Finish.{Placed}
 use Rattle.paths.specs.Peel.{collected}

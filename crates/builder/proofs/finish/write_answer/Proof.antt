@@ -1,7 +1,7 @@
 -- `builder::finish::write_answer` meets its contract: all but the length is put from byte 4 on, piece behind piece, and the length in front of it. Assumes nothing.
 use Rattle.builder.proofs.FinishLaws.{collected-length, answer-placed}
 use Rattle.builder.specs.Finish.{heldMarks}
-use Rattle.network.specs.Network.{at}
+use Rattle.network.specs.Network.{nth}
 use lib.ListN.{length-set}
 use mathlib.Core.Path.{_∙_}
 use native.Mathlib.Omega.{arith}
@@ -37,7 +37,7 @@ same-length : tie.Need-same-length
 same-length c = c .before .before .put32 .kept .0 ∙ (c .before .before .before .before .before .before .put-paths .kept .0 ∙ (c .before .before .before .before .before .before .before .before .before .before .put-marks .kept .0 ∙ (c .before .before .before .before .before .before .before .before .before .before .before .before .before .before .put64 .kept .0 ∙ (c .before .before .before .before .before .before .before .before .before .before .before .before .before .before .before .before .before .before .put16 .kept .0 ∙ length-set (c .before .before .before .before .before .before .before .before .before .before .before .before .before .before .before .before .before .before .before .before .before .args .out .now) 4 1))))
 
 returns : tie.Need-returns
-returns c = answer-placed _ _ _ _ _ _ _ _ (heldMarks (at (c .before .before .before .before .before .before .before .before .before .before .before .before .before .before .before .before .before .before .before .before .before .args .into .now)) (at (c .before .before .before .before .before .before .before .before .before .before .before .before .before .before .before .before .before .before .before .before .before .args .outof .now))) _ _ _ (omega (arith, c .before .before .before .before .before .before .before .before .before .before .before .before .before .before .before .before .before .before .before .before .before .pre .0)) (collected-length _ _ _ _) (c .before .before .before .before .before .before .before .before .before .before .before .before .before .before .before .before .before .before .put16 .ensures) (c .before .before .before .before .before .before .before .before .before .before .before .before .before .before .put64 .ensures) (c .before .before .before .before .before .before .before .before .before .before .put-marks .ensures) (c .before .before .before .before .before .before .put-paths .ensures .0) (c .before .before .before .before .before .before .put-paths .ensures .1 .0) (c .before .before .put32 .ensures)
+returns c = answer-placed _ _ _ _ _ _ _ _ (heldMarks (nth (c .before .before .before .before .before .before .before .before .before .before .before .before .before .before .before .before .before .before .before .before .before .args .into .now)) (nth (c .before .before .before .before .before .before .before .before .before .before .before .before .before .before .before .before .before .before .before .before .before .args .outof .now))) _ _ _ (omega (arith, c .before .before .before .before .before .before .before .before .before .before .before .before .before .before .before .before .before .before .before .before .before .pre .0)) (collected-length _ _ _ _) (c .before .before .before .before .before .before .before .before .before .before .before .before .before .before .before .before .before .before .put16 .ensures) (c .before .before .before .before .before .before .before .before .before .before .before .before .before .before .put64 .ensures) (c .before .before .before .before .before .before .before .before .before .before .put-marks .ensures) (c .before .before .before .before .before .before .put-paths .ensures .0) (c .before .before .before .before .before .before .put-paths .ensures .1 .0) (c .before .before .put32 .ensures)
 
 pub write-answer-spec : {M : Type 1} → statement M
 write-answer-spec =
