@@ -180,15 +180,15 @@ module _ (s : List ℕ) (kept : List Bool) (Y : Layable s kept) where
           (sumTo (2 * vertexCount s + 1) (λ u. nth surplus u))
       carried = C (λ u. entering to first (allSlots s) u) (λ u. leaving from first (allSlots s) u) (L .balance .balance)
 
-      pub loads-low : (e : ℕ) → e < plainSlots s → (nth load e ≤ mostMoved) × (nth first e ≤ maxDemand)
-      loads-low e h = (carried .few e h, first-low e h)
+      pub both-low : (e : ℕ) → e < plainSlots s → (nth load e ≤ mostMoved) × (nth first e ≤ maxDemand)
+      both-low e h = (carried .few e h, first-low e h)
 
       -- what the flow leaves
       pub all-flowed : (added full : List ℕ) → Added (plainSlots s) from to load first added full → Flowed s from to mark full
       all-flowed added full A =
           flowed s (Y .reads) from to cost first load mark added full live (sumTo (2 * vertexCount s + 1) (λ u. nth surplus u)) (L .edges) (L .loads)
           (first-loads-in-use s (Y .reads) (Y .coverable))
-          (λ e h. subst (λ x. x ≤ maxDemand) (L .loads .is e h) (summable s (Y .reads) (Y .coverable) from to cost first (L .edges) (L .loads) .low e h)) (L .nodes) carried
+          (λ e h. subst (λ x. x ≤ maxDemand) (L .loads .is e h) (loads-low s (Y .reads) (Y .coverable) from to cost first (L .edges) (L .loads) e h)) (L .nodes) carried
           (balance-sums s (Y .reads) (Y .coverable) from to cost first (L .edges) (L .loads) live (L .nodes) surplus deficit (L .balance) .1) A
 
 -- the same by the numbers of vertices and arcs that the code holds
@@ -215,7 +215,7 @@ module _ (s : List ℕ) (kept : List Bool) (Y : Layable s kept) (n m : ℕ) (en 
     pub to-add : length load ≡ mostEdges → ((3 * n + m ≤ mostEdges) × (length load ≡ mostEdges) × (length first ≡ mostEdges)) × ((e : ℕ) → e < 3 * n + m → (nth load e ≤ mostMoved) × (nth first e ≤ maxDemand))
     to-add long =
         let h = Y .reads .arcs .header in
-        ((omega (arith, h .few-vertices, h .few-arcs), long, L .loads .long), λ e l. loads-low s kept Y from to cost first live surplus deficit L load mark moved e (omega arith))
+        ((omega (arith, h .few-vertices, h .few-arcs), long, L .loads .long), λ e l. both-low s kept Y from to cost first live surplus deficit L load mark moved e (omega arith))
 
     pub flow-done : (added full : List ℕ) → Added (3 * n + m) from to load first added full → Flowed s from to mark full
     flow-done added full A =
