@@ -1,5 +1,6 @@
 """Writes the builder's vectors: crates/builder_vectors/stdin (records: length in four bytes, then a form's bytes) and
-crates/builder_vectors/stdout (for each record a line NUMBER PLACE PRICE SOME CHECKED NUMBER PLACE WRITTEN).
+crates/builder_vectors/stdout (for each record a line NUMBER PLACE PRICE SOME CHECKED NUMBER PLACE WRITTEN, twice: once by the guess of the flow, and once
+by the search that follows where a guess fails).
 
     python3 tests/vectors/make_builder_vectors.py            write both files
     python3 tests/vectors/make_builder_vectors.py --check    only compare the files with what would be written
@@ -162,4 +163,5 @@ if __name__ == "__main__":
     short = sum(1 for _, answer in answers if answer[5] == 9)
     summary = f"{len(vectors)} vectors, {len(stdin)} bytes, seed {SEED}; by number: {counts}; 9 in {short} of them"
     must(len(stdin) < 400_000 and max(len(form) for _, form in vectors) <= 4096 and all(counts.values()), summary)
-    stored.keep("builder_vectors", stdin, [(name, " ".join(map(str, answer))) for name, answer in answers], summary)
+    lines = [(name + way, " ".join(map(str, answer))) for name, answer in answers for way in ("", ", no guess")]
+    stored.keep("builder_vectors", stdin, lines, summary)

@@ -17,15 +17,15 @@ use Rattle.forms.specs.GraphReads.{Reads}
 use Rattle.reads.specs.ReadTable.{rowsOf, Leaves, tableRows}
 use Rattle.certify.specs.Certify.{ReadsCounted, CountsLow}
 use Rattle.reads.proofs.TableRows.{table-length}
-use Rattle.network.specs.Network.{nth, sumTo, leaving, entering, base, Keys, Chained, Shape, Waiting, Carried, mostNodes, mostEdges, mostMoved}
+use Rattle.network.specs.Network.{nth, sumTo, leaving, entering, base, Keys, Chained, Shape, Waiting, Carried, mostNodes, mostEdges, mostMoved, Summable}
 use Rattle.paths.specs.Slots.{preparedOf, plainSlots, allSlots}
-use Rattle.wiring.specs.Lay.{EdgesLaid, LoadsLaid, Summable, Tallied, Balanced}
+use Rattle.wiring.specs.Lay.{EdgesLaid, LoadsLaid, Balanced}
 use Rattle.paths.specs.Peel.{opensAt, worthOf, Ready}
 use Rattle.builder.specs.Finish.{Added, Loaded, Flowed}
 use Rattle.builder.specs.Stages.{ReadsReady, Layable, Blank, NetworkLaid, OneAdded, dropped, joined, Adding, AtBase}
 use Rattle.forms.specs.Limits.{roomVertices, roomArcs, maxDemand}
 use Rattle.network.proofs.NetworkLaws.{same-or-not}
-use Rattle.wiring.proofs.Shape.{shape-of-graph, ends-live, first-loads-in-use, summable, balance-sums, ready-to-carry}
+use Rattle.wiring.proofs.Shape.{shape-of-graph, ends-live, first-loads-in-use, loads-low, summable, balance-sums, ready-to-carry}
 use Rattle.wiring.proofs.SlotLaws.{opens-worth}
 use Rattle.builder.proofs.FinishLawsFlow.{flowed}
 
@@ -158,11 +158,6 @@ module _ (s : List ℕ) (n m count : ℕ) (en : n ≡ vertexCount s) (em : m ≡
       Balanced (2 * vertexCount s + 1) (allSlots s) from to first surplus deficit
   laid-balance from to first surplus deficit B = rw (← nodes-are, ← edges-are) B
 
-pub tally-none : (N : ℕ) (from to first surplus deficit : List ℕ) → length surplus ≡ mostNodes → length deficit ≡ mostNodes → ((u : ℕ) → nth surplus u ≡ 0) → ((u : ℕ) → nth deficit u ≡ 0) →
-    Tallied N 0 from to first surplus deficit
-unfolding leaving entering
-tally-none N from to first surplus deficit a b c d = record { into-long = a; out-long = b; entered = λ u h. c u; left = λ u h. d u }
-
 module _ (s : List ℕ) (kept : List Bool) (Y : Layable s kept) where
   module _ (from to cost first : List ℕ) (live : List Bool) (surplus deficit : List ℕ) (L : NetworkLaid s from to cost first live surplus deficit) where
     pub laid-shape : Shape (2 * vertexCount s + 1) (plainSlots s) live from to cost
@@ -176,7 +171,7 @@ module _ (s : List ℕ) (kept : List Bool) (Y : Layable s kept) where
 
     -- the first loads are low
     pub first-low : (e : ℕ) → e < plainSlots s → nth first e ≤ maxDemand
-    first-low e h = summable s (Y .reads) (Y .coverable) from to cost first (L .edges) (L .loads) .low e (omega arith)
+    first-low e h = loads-low s (Y .reads) (Y .coverable) from to cost first (L .edges) (L .loads) e (omega arith)
 
     module _ (load mark : List ℕ)
         (C : (given wanted : ℕ → ℕ) → ((u : ℕ) → u < 2 * vertexCount s + 1 → nth surplus u + wanted u ≡ nth deficit u + given u) →
@@ -185,15 +180,15 @@ module _ (s : List ℕ) (kept : List Bool) (Y : Layable s kept) where
           (sumTo (2 * vertexCount s + 1) (λ u. nth surplus u))
       carried = C (λ u. entering to first (allSlots s) u) (λ u. leaving from first (allSlots s) u) (L .balance .balance)
 
-      pub loads-low : (e : ℕ) → e < plainSlots s → (nth load e ≤ mostMoved) × (nth first e ≤ maxDemand)
-      loads-low e h = (carried .few e h, first-low e h)
+      pub both-low : (e : ℕ) → e < plainSlots s → (nth load e ≤ mostMoved) × (nth first e ≤ maxDemand)
+      both-low e h = (carried .few e h, first-low e h)
 
       -- what the flow leaves
       pub all-flowed : (added full : List ℕ) → Added (plainSlots s) from to load first added full → Flowed s from to mark full
       all-flowed added full A =
           flowed s (Y .reads) from to cost first load mark added full live (sumTo (2 * vertexCount s + 1) (λ u. nth surplus u)) (L .edges) (L .loads)
           (first-loads-in-use s (Y .reads) (Y .coverable))
-          (λ e h. subst (λ x. x ≤ maxDemand) (L .loads .is e h) (summable s (Y .reads) (Y .coverable) from to cost first (L .edges) (L .loads) .low e h)) (L .nodes) carried
+          (λ e h. subst (λ x. x ≤ maxDemand) (L .loads .is e h) (loads-low s (Y .reads) (Y .coverable) from to cost first (L .edges) (L .loads) e h)) (L .nodes) carried
           (balance-sums s (Y .reads) (Y .coverable) from to cost first (L .edges) (L .loads) live (L .nodes) surplus deficit (L .balance) .1) A
 
 -- the same by the numbers of vertices and arcs that the code holds
@@ -220,7 +215,7 @@ module _ (s : List ℕ) (kept : List Bool) (Y : Layable s kept) (n m : ℕ) (en 
     pub to-add : length load ≡ mostEdges → ((3 * n + m ≤ mostEdges) × (length load ≡ mostEdges) × (length first ≡ mostEdges)) × ((e : ℕ) → e < 3 * n + m → (nth load e ≤ mostMoved) × (nth first e ≤ maxDemand))
     to-add long =
         let h = Y .reads .arcs .header in
-        ((omega (arith, h .vertices-room, h .arcs-room), long, L .loads .long), λ e l. loads-low s kept Y from to cost first live surplus deficit L load mark moved e (omega arith))
+        ((omega (arith, h .vertices-room, h .arcs-room), long, L .loads .long), λ e l. both-low s kept Y from to cost first live surplus deficit L load mark moved e (omega arith))
 
     pub flow-done : (added full : List ℕ) → Added (3 * n + m) from to load first added full → Flowed s from to mark full
     flow-done added full A =

@@ -43,7 +43,7 @@ ghost use Rattle.forms.specs.GraphFaults.{refusal, nothingRefused, then, graphV
 ghost use Rattle.forms.specs.BuildFaults.{roomAsked};
 ghost use Rattle.reads.specs.ReadTable.{Leaves, TableSized};
 ghost use Rattle.certify.specs.Certify.{CountsLow};
-ghost use Rattle.network.specs.Network.{nth, sumTo, Shape, Waiting, Carried, mostNodes, mostEdges, mostMoved};
+ghost use Rattle.network.specs.Network.{nth, mostEdges, mostMoved};
 ghost use Rattle.paths.specs.Slots.{preparedOf};
 ghost use Rattle.reach.specs.Reached.{Reachable, Tells};
 ghost use Rattle.paths.specs.Peel.{PathTable, Peeled, collected};
@@ -124,48 +124,6 @@ fn lay_network(
         from,
         to,
         full,
-        surplus,
-        deficit,
-    );
-}
-
-// Moves every surplus to the deficits, along the chains of each node's edges.
-fn carry(
-    nodes: usize,
-    plain: usize,
-    live: &[bool; NODES],
-    from: &[usize; EDGES],
-    to: &[usize; EDGES],
-    cost: &[u64; EDGES],
-    load: &mut [u64; EDGES],
-    mark: &mut [u64; NODES],
-    surplus: &mut [u64; NODES],
-    deficit: &mut [u64; NODES],
-)
-    requires { ⌜ Shape nodes plain (now live) (now from) (now to) (now cost) ⌝ }
-    requires { ⌜ Waiting nodes plain (now live) (now load) (now mark) (now surplus) (now deficit) ⌝ }
-    ensures { λ _. ⌜ ((given wanted : ℕ → ℕ) → ((u : ℕ) → u < nodes → nth (now (surplus .entry)) u + wanted u ≡ nth (now (deficit .entry)) u + given u) → Carried nodes plain (now (live .entry)) (now (from .entry)) (now (to .entry)) (now (cost .entry)) (now (load .exit)) (now (mark .exit)) given wanted (sumTo nodes (λ u. nth (now (surplus .entry)) u))) ⌝ }
-    ensures { λ _. ⌜ (length (now (load .exit)) ≡ mostEdges) × (length (now (mark .exit)) ≡ mostNodes) ⌝ }
-{
-    let mut headout = [0usize; NODES];
-    let mut nextout = [0usize; EDGES];
-    chain(nodes, plain, from, &mut headout, &mut nextout);
-    let mut headin = [0usize; NODES];
-    let mut nextin = [0usize; EDGES];
-    chain(nodes, plain, to, &mut headin, &mut nextin);
-    carry_all(
-        nodes,
-        plain,
-        live,
-        from,
-        to,
-        cost,
-        &headout,
-        &nextout,
-        &headin,
-        &nextin,
-        load,
-        mark,
         surplus,
         deficit,
     );
@@ -258,6 +216,7 @@ fn flow(
     rows: &[[u8; ROW]; ROWS],
     lens: &[usize; ROWS],
     count: usize,
+    fuel: usize,
     vertex_reads: &[usize; Graph::ROOM_VERTICES],
     arc_reads: &[usize; Graph::ROOM_ARCS],
     from: &mut [usize; EDGES],
@@ -295,9 +254,10 @@ fn flow(
         &mut deficit,
     );
     let mut load = [0u64; EDGES];
-    carry(
+    carry_all(
         2 * n + 1,
         plain,
+        fuel,
         &live,
         from,
         to,
@@ -316,6 +276,7 @@ fn answer(
     roles: &[u8; Graph::ROOM_VERTICES],
     reached: &[bool; Graph::ROOM_VERTICES],
     reaching: &[bool; Graph::ROOM_VERTICES],
+    fuel: usize,
     out: &mut [u8],
 ) -> usize
     requires { ⌜ Reachable (now s) (now reached) (now reaching) × Roles (now s) (now roles) × Coverable (graphOf (now s)) × (graphVerdict (now s) .number ≡ 0) ⌝ }
@@ -340,6 +301,7 @@ fn answer(
         &rows,
         &lens,
         count,
+        fuel,
         &vertex_reads,
         &arc_reads,
         &mut from,
@@ -393,8 +355,9 @@ fn first_refusal(s: &[u8], number: usize, place: usize, room: usize) -> Verdict
     Verdict::new(0, 0)
 }
 
-// Builds a lowest-price cover of the graph and writes its answer form at the front of the output, or says why not: 1 to 7 where the graph does not read, then 8, then 9.
-pub fn build(graph: &[u8], out: &mut [u8]) -> Built
+// Builds as `build` does, with so many steps at the most for the guess of the flow: what is promised is the same for any number. With 0 every guess
+// fails, and the flow is searched for.
+pub fn build_within(graph: &[u8], out: &mut [u8], fuel: usize) -> Built
     ensures { λ r. ⌜ BuildPromise (now (graph .entry)) (now (out .entry)) (now (out .exit)) r ⌝ }
 {
     let read = read_graph(graph);
@@ -419,10 +382,20 @@ pub fn build(graph: &[u8], out: &mut [u8]) -> Built
             written: 0,
         };
     }
-    let written = answer(graph, &roles, &reached, &reaching, out);
+    let written = answer(graph, &roles, &reached, &reaching, fuel, out);
     Built {
         number: 0,
         place: 0,
         written,
     }
+}
+
+// The most steps of a guess: many times what any graph took that was tried.
+pub const FUEL: usize = 10_000;
+
+// Builds a lowest-price cover of the graph and writes its answer form at the front of the output, or says why not: 1 to 7 where the graph does not read, then 8, then 9.
+pub fn build(graph: &[u8], out: &mut [u8]) -> Built
+    ensures { λ r. ⌜ BuildPromise (now (graph .entry)) (now (out .entry)) (now (out .exit)) r ⌝ }
+{
+    build_within(graph, out, FUEL)
 }

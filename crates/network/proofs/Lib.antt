@@ -5,3 +5,4 @@ mod NetworkLawsSettle
 mod NetworkLawsRaise
 mod NetworkLawsPush
 mod NetworkLawsCarry
+pub mod NetworkLawsStand

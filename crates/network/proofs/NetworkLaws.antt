@@ -1,6 +1,8 @@
 -- Laws of the working network over plain lists: what stands at a place after a store, sums after a store, and the chains of edges.
 use Prim.Native.Nat.{ℕ, zero, suc, _+_, _*_, _≤_, _<_}
 use native.Mathlib.Omega.{arith}
+use native.Mathlib.Numerals.{add-one}
+use native.Mathlib.Nat.{suc-mul, add-le-add}
 use native.Mathlib.Decide.{ℕ-discrete, decLt}
 use mathlib.Core.Path.{_≡_, refl, sym, ap, ap₂, _∙_}
 use mathlib.Core.List.{List}
@@ -76,6 +78,23 @@ sum-term (suc n) r f l = go (same-or-not r n) (λ l. sum-term n r f l)
     go : (r ≡ n) ⊎ (r ≢ n) → (r < n → f r ≤ sumTo n f) → f r ≤ sumTo n f + f n
     go (inl e) more = omega (arith, ap f e)
     go (inr ne) more = omega (arith, more (omega arith))
+
+pub sum-more : (k : ℕ) (f : ℕ → ℕ) → sumTo (k + 1) f ≡ sumTo k f + f k
+sum-more k f = ap (λ j. sumTo j f) (add-one k)
+
+-- the first terms are no more than all
+pub sum-part : (k n : ℕ) (f : ℕ → ℕ) → k ≤ n → sumTo k f ≤ sumTo n f
+sum-part k zero f l = let e : k ≡ 0 = omega arith in omega (arith, ap (λ j. sumTo j f) e)
+sum-part k (suc n) f l = go (same-or-not k (suc n)) (λ l. sum-part k n f l)
+  where
+    go : (k ≡ suc n) ⊎ (k ≢ suc n) → (k ≤ n → sumTo k f ≤ sumTo n f) → sumTo k f ≤ sumTo n f + f n
+    go (inl e) more = omega (arith, ap (λ j. sumTo j f) e)
+    go (inr ne) more = omega (arith, more (omega arith))
+
+-- of k terms that are no more than `most` each
+pub sum-low : (most k : ℕ) (f : ℕ → ℕ) → ((v : ℕ) → v < k → f v ≤ most) → sumTo k f ≤ k * most
+sum-low most zero f h = omega arith
+sum-low most (suc k) f h = rw suc-mul (add-le-add (sum-low most k f (λ v l. h v (omega arith))) (h k (omega arith)))
 
 -- a sum that is not 0 has a term that is not 0
 pub sum-some : (n : ℕ) (f : ℕ → ℕ) → 1 ≤ sumTo n f → (v : ℕ) × (v < n) × (1 ≤ f v)

@@ -8,7 +8,7 @@ use mathlib.Core.Logic.{inl, inr, ⊎-elim}
 use lib.Dec.{T}
 use lib.ListN.{length, set, length-set}
 use lib.Seq.{getD-set-other}
-use Rattle.network.specs.Network.{nth, liveAt, Shape, SlacksHold, LoadsTight, MarksNear, Hop, forward, back, TargetFound, Way, stop, step, span, Raisable, Raised, Rung, ahead, behind, Laid, mostNodes, farthest, highest}
+use Rattle.network.specs.Network.{nth, liveAt, base, Shape, SlacksHold, LoadsTight, MarksNear, Hop, forward, back, TargetFound, Way, stop, step, span, Raisable, Raised, Rung, ahead, behind, Laid, mostNodes, farthest, highest}
 use Rattle.network.proofs.NetworkLaws.{below-or-not, nth-set}
 
 pub is-live : (b : Bool) → b ≡ true → T b
@@ -68,6 +68,15 @@ pub way-most : {E : ℕ} {from to cost : List ℕ} {u w c : ℕ} (f : ℕ → �
 way-most f less stop = omega arith
 way-most f less (step e l w) = let a = less e l in let b = way-most f less w in omega arith
 
+-- where slacks hold, a mark is as near to the root's as a way is cheap
+pub slacks-near : (N E : ℕ) (live : List Bool) (from to cost : List ℕ) → Shape N E live from to cost → (mark : List ℕ) → SlacksHold E from to cost mark →
+    nth mark 0 ≡ base → MarksNear N live mark
+slacks-near N E live from to cost P mark S r = record {
+  at-root = r;
+  not-above = λ u un t. let w = P .from-root u un t in let a = way-most (λ v. nth mark v) S (w .2) in let b = w .1 in omega arith;
+  not-below = λ u un t. let w = P .to-root u un t in let a = way-most (λ v. nth mark v) S (w .2) in let b = w .1 in omega arith;
+}
+
 module _ (N E : ℕ) (live : List Bool) (from to cost load mark deficit : List ℕ) (source target : ℕ) (dist via rank : List ℕ)
     (P : Shape N E live from to cost) (S : SlacksHold E from to cost mark) (L : LoadsTight E from to cost mark load) (M : MarksNear N live mark)
     (F : TargetFound N E from to cost load mark deficit source target dist via rank) where
@@ -88,9 +97,6 @@ module _ (N E : ℕ) (live : List Bool) (from to cost load mark deficit : List �
       let b : min (nth dist (nth from e)) (nth dist target) ≤ min (nth dist (nth to e)) (nth dist target) =
       ⊎-elim (λ a. omega arith) (λ b. omega arith) (F .relaxed-back e l o) in
       omega arith
-
-  from-root-lifted : (u : ℕ) → u < N → T (liveAt live u) → lifted u ≤ lifted 0 + span
-  from-root-lifted u un t = let w = P .from-root u un t in let a = way-most lifted lifted-slack (w .2) in let b = w .1 in omega arith
 
   to-root-lifted : (u : ℕ) → u < N → T (liveAt live u) → lifted 0 ≤ lifted u + span
   to-root-lifted u un t = let w = P .to-root u un t in let a = way-most lifted lifted-slack (w .2) in let b = w .1 in omega arith
@@ -127,14 +133,9 @@ module _ (N E : ℕ) (live : List Bool) (from to cost load mark deficit : List �
         omega arith
 
     pub raised-near : MarksNear N live mark'
-    unfolding lifted
     raised-near =
-        let r = M .at-root in
-        record {
-          at-root = let a = R .raised 0 (P .some-node) (P .root-live) in omega arith;
-          not-above = λ u un t. let a = from-root-lifted u un t in let b = R .raised u un t in omega arith;
-          not-below = λ u un t. let a = to-root-lifted u un t in let b = R .raised u un t in omega arith;
-        }
+        slacks-near N E live from to cost P mark' raised-slacks
+        (let r = M .at-root in let a = R .raised 0 (P .some-node) (P .root-live) in omega arith)
 
     rung : (v : ℕ) → nth rank v < N → v < N → Hop E from to cost load mark dist via rank v → Rung E from to cost load mark' via rank v
     unfolding lifted

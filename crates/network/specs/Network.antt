@@ -1,22 +1,23 @@
 -- A network, as its arrays hold it: nodes 0..N-1, node 0 the root; edges 0..E-1, each with the node it comes from, the node
 -- it goes to and a cost; on each edge a load; on each node a mark. `chain` and `carry_all` promise in these words; no promise of the
 -- builder's call does.
-use Prim.Native.Nat.{ℕ, zero, suc, _+_, _*_, _≤_, _<_, min}
+use Prim.Native.Nat.{ℕ, zero, suc, _+_, _*_, _^_, _≤_, _<_, min}
 use mathlib.Core.Path.{_≡_}
 use mathlib.Core.List.{List}
 use mathlib.Core.Bool.{Bool, false, cond}
 use mathlib.Core.Logic.{_⊎_, _≢_}
 use lib.Dec.{T, eqb}
 use lib.ListN.{length, getD, set}
+use Rattle.pivot.specs.Sizes as sizes
 
 -- ---- sizes: `most..` is what is asked of a network and how long its arrays are; what follows from these is written so
 
--- nodes, and edges
+-- nodes, and edges: as many as the guess takes
 abbrev pub mostNodes : ℕ
-mostNodes = 129
+mostNodes = sizes.mostNodes
 
 abbrev pub mostEdges : ℕ
-mostEdges = 464
+mostEdges = sizes.mostEdges
 
 -- what there is to move in all
 abbrev pub mostMoved : ℕ
@@ -346,3 +347,71 @@ pub record Carried (N E : ℕ) (live : List Bool) (from to cost load mark : List
   pub balance : (u : ℕ) → u < N → leaving from load E u + wanted u ≡ entering to load E u + given u
   pub root-sends : leaving from load E 0 ≤ moved
   pub few : (e : ℕ) → e < E → nth load e ≤ mostMoved
+
+-- ---- a guess, tested
+
+-- edges between nodes
+pub record Ends (N E : ℕ) (from to : List ℕ) : Type 0 where
+  pub some-node : 1 ≤ N
+  pub few-nodes : N ≤ mostNodes
+  pub few-edges : E ≤ mostEdges
+  pub from-node : (e : ℕ) → e < E → nth from e < N
+  pub to-node : (e : ℕ) → e < E → nth to e < N
+
+-- an edge from a node with the mark `back` to one with the mark `ahead`: its slack is at least 0, and 0 under a load, and there is not too much on it
+pub record EdgeStands (cost back ahead load : ℕ) : Type 0 where
+  pub slack : ahead ≤ cost + back
+  pub tight : 1 ≤ load → ahead ≡ cost + back
+  pub few : load ≤ mostMoved
+
+-- each edge below k does so
+pub record EdgesStand (k : ℕ) (from to cost load mark : List ℕ) : Type 0 where
+  pub each : (e : ℕ) → e < k → EdgeStands (nth cost e) (nth mark (nth from e)) (nth mark (nth to e)) (nth load e)
+
+-- what it takes to sum the loads at the nodes: ends are nodes, and loads are low
+pub record Summable (N E : ℕ) (from to load : List ℕ) : Type 0 where
+  pub ends : Ends N E from to
+  pub low : (e : ℕ) → e < E → nth load e ≤ mostMoved
+
+-- `into` and `out` hold what enters and what leaves each node on the edges below e
+pub record Tallied (N e : ℕ) (from to load into out : List ℕ) : Type 0 where
+  pub into-long : length into ≡ mostNodes
+  pub out-long : length out ≡ mostNodes
+  pub entered : (u : ℕ) → u < N → nth into u ≡ entering to load e u
+  pub left : (u : ℕ) → u < N → nth out u ≡ leaving from load e u
+
+-- no sum of what leaves a node and its deficit, or of what enters it and its surplus, is too large to hold
+pub record Comparable (N : ℕ) (into out surplus deficit : List ℕ) : Type 0 where
+  pub few-nodes : N ≤ mostNodes
+  pub in-fits : (u : ℕ) → u < N → nth into u + nth surplus u < 2 ^ 64
+  pub out-fits : (u : ℕ) → u < N → nth out u + nth deficit u < 2 ^ 64
+
+-- each node below k gives off its surplus and gets its deficit
+pub record Even (k : ℕ) (into out surplus deficit : List ℕ) : Type 0 where
+  pub each : (u : ℕ) → u < k → nth out u + nth deficit u ≡ nth into u + nth surplus u
+
+-- what there is to move is not too much
+pub record Movable (N : ℕ) (surplus deficit : List ℕ) : Type 0 where
+  pub few-nodes : N ≤ mostNodes
+  pub few : sumTo N (λ u. nth surplus u) ≤ mostMoved
+  pub few-wanted : sumTo N (λ u. nth deficit u) ≤ mostMoved
+
+-- the loads balance every node, and the root sends no more than there is to move
+pub record LoadsStand (N E : ℕ) (from to load surplus deficit : List ℕ) : Type 0 where
+  pub balance : (u : ℕ) → u < N → leaving from load E u + nth deficit u ≡ entering to load E u + nth surplus u
+  pub root-sends : leaving from load E 0 ≤ sumTo N (λ u. nth surplus u)
+
+-- Loads and marks that need no further search: what the test asks, from which all that `Carried` says follows where the network has its shape.
+pub record Stands (N E : ℕ) (from to cost load mark surplus deficit : List ℕ) : Type 0 where
+  pub edges : EdgesStand E from to cost load mark
+  pub loads : LoadsStand N E from to load surplus deficit
+  pub root-mark : nth mark 0 ≡ base
+
+-- no load on the first E edges, and the first N marks at the base: what a guess that fails the test is set back to
+pub record Emptied (E : ℕ) (load : List ℕ) : Type 0 where
+  pub long : length load ≡ mostEdges
+  pub nothing : (e : ℕ) → e < E → nth load e ≡ 0
+
+pub record Levelled (N : ℕ) (mark : List ℕ) : Type 0 where
+  pub long : length mark ≡ mostNodes
+  pub at-base : (u : ℕ) → u < N → nth mark u ≡ base

@@ -1,14 +1,26 @@
-// The flow of lowest cost: what has to move is carried from nodes with a surplus to nodes with a deficit, always along the cheapest way.
-// It knows nothing of graphs and reads. Another search may take its place: those above see `chain`, `carry_all` and their contracts.
+// The flow of lowest cost: what has to move is carried from nodes with a surplus to nodes with a deficit. A guess is tested (`stands`), and where it fails the
+// test, everything is carried along cheapest ways, one after the other. It knows nothing of graphs and reads. Another search may take its place: those
+// above see `chain`, `carry_all` and their contracts.
+
+// The test of a guess.
+pub mod stands;
+
+use crate::stands::stands;
+use pivot::guess;
 ghost use mathlib.Core.Path.{_≡_};
 ghost use Prim.Native.Nat.{ℕ, _+_, _*_, _<_, _≤_, min};
 ghost use lib.ListN.{length};
-ghost use Rattle.network.specs.Network.{nth, Chained, Keys, Cleared, Lanes, Growing, Nearest, Lowered, Seeking, Fresh, TargetFound, Raisable, Raised, Laid, Bottleneck, Pushing, Shape, Carrying, Carries, OthersKept, Waiting, Carried, sumTo, mostNodes, mostEdges};
+ghost use Rattle.network.specs.Network.{nth, Chained, Keys, Cleared, Lanes, Growing, Nearest, Lowered, Seeking, Fresh, TargetFound, Raisable, Raised, Laid, Bottleneck, Pushing, Shape, Carrying, Carries, OthersKept, Waiting, Carried, sumTo, mostNodes, mostEdges, Ends, Movable, Stands, Emptied, Levelled};
+ghost use Rattle.pivot.specs.Sizes.{PerNode, PerEdge};
+ghost use mathlib.Core.Bool.{true};
 
-// How many nodes and edges there are at the most: as long are the arrays. specs/Network.antt has the same numbers.
-pub const NODES: usize = 129;
+// How many nodes and edges there are at the most: as long are the arrays.
+pub const NODES: usize = pivot::NODES;
 
-pub const EDGES: usize = 464;
+pub const EDGES: usize = pivot::EDGES;
+
+// What there is to move at the most. specs/Network.antt has the same number.
+pub const MOST_MOVED: u64 = 320_000_016;
 
 // Marks are held with the base added, and are no further from it than the span: one edge of any cost and 63 that cost no more than 1,000,000.
 pub const BASE: u64 = 2_000_000_000;
@@ -497,8 +509,8 @@ fn carry_from(
     }
 }
 
-// Moves every surplus to the deficits, at the lowest cost: no slack is below 0, and every edge that carries a load has slack 0.
-pub fn carry_all(
+// Moves every surplus to the deficits, one node after the other, where nothing is moved yet.
+fn carry_slowly(
     nodes: usize,
     edges: usize,
     live: &[bool; NODES],
@@ -542,4 +554,138 @@ pub fn carry_all(
         );
         u += 1;
     }
+}
+
+// Takes every load off.
+fn empty(edges: usize, load: &mut [u64; EDGES])
+    requires { ⌜ (edges ≤ mostEdges) × (length (now load) ≡ mostEdges) ⌝ }
+    ensures { λ _. ⌜ Emptied edges (now (load .exit)) ⌝ }
+{
+    let mut e: usize = 0;
+    while e < edges {
+        load[e] = 0;
+        e += 1;
+    }
+}
+
+// Sets every mark to the base.
+fn level(nodes: usize, mark: &mut [u64; NODES])
+    requires { ⌜ (nodes ≤ mostNodes) × (length (now mark) ≡ mostNodes) ⌝ }
+    ensures { λ _. ⌜ Levelled nodes (now (mark .exit)) ⌝ }
+{
+    let mut u: usize = 0;
+    while u < nodes {
+        mark[u] = BASE;
+        u += 1;
+    }
+}
+
+// Nothing is moved, as it was before the guess.
+fn set_back(nodes: usize, edges: usize, load: &mut [u64; EDGES], mark: &mut [u64; NODES])
+    requires { ⌜ (nodes ≤ mostNodes) × (edges ≤ mostEdges) ⌝ }
+    requires { ⌜ PerEdge (now load) × PerNode (now mark) ⌝ }
+    ensures { λ _. ⌜ Emptied edges (now (load .exit)) × Levelled nodes (now (mark .exit)) ⌝ }
+{
+    empty(edges, load);
+    level(nodes, mark);
+}
+
+// Guesses loads and marks, and tells whether they stand the test.
+fn guess_stands(
+    nodes: usize,
+    edges: usize,
+    fuel: usize,
+    from: &[usize; EDGES],
+    to: &[usize; EDGES],
+    cost: &[u64; EDGES],
+    head: &[usize; NODES],
+    next: &[usize; EDGES],
+    surplus: &[u64; NODES],
+    deficit: &[u64; NODES],
+    load: &mut [u64; EDGES],
+    mark: &mut [u64; NODES],
+) -> bool
+    requires { ⌜ Ends nodes edges (now from) (now to) × Movable nodes (now surplus) (now deficit) ⌝ }
+    requires { ⌜ PerEdge (now load) × PerNode (now mark) ⌝ }
+    ensures { λ r. ⌜ (r ≡ true → Stands nodes edges (now (from .entry)) (now (to .entry)) (now (cost .entry)) (now (load .exit)) (now (mark .exit)) (now (surplus .entry)) (now (deficit .entry))) ⌝ }
+    ensures { λ _. ⌜ PerEdge (now (load .exit)) × PerNode (now (mark .exit)) ⌝ }
+{
+    if guess(
+        nodes,
+        edges,
+        fuel,
+        from,
+        to,
+        cost,
+        head,
+        next,
+        surplus,
+        deficit,
+        load,
+        mark,
+    ) {
+        return stands(nodes, edges, from, to, cost, load, mark, surplus, deficit);
+    }
+    false
+}
+
+// Moves every surplus to the deficits, at the lowest cost: no slack is below 0, and every edge that carries a load has slack 0. A guess of no more than `fuel`
+// steps is taken where it stands the test; else its loads and marks are set back, and everything is carried slowly.
+pub fn carry_all(
+    nodes: usize,
+    edges: usize,
+    fuel: usize,
+    live: &[bool; NODES],
+    from: &[usize; EDGES],
+    to: &[usize; EDGES],
+    cost: &[u64; EDGES],
+    load: &mut [u64; EDGES],
+    mark: &mut [u64; NODES],
+    surplus: &mut [u64; NODES],
+    deficit: &mut [u64; NODES],
+)
+    requires { ⌜ Shape nodes edges (now live) (now from) (now to) (now cost) ⌝ }
+    requires { ⌜ Waiting nodes edges (now live) (now load) (now mark) (now surplus) (now deficit) ⌝ }
+    ensures { λ _. ⌜ ((given wanted : ℕ → ℕ) → ((u : ℕ) → u < nodes → nth (now (surplus .entry)) u + wanted u ≡ nth (now (deficit .entry)) u + given u) → Carried nodes edges (now (live .entry)) (now (from .entry)) (now (to .entry)) (now (cost .entry)) (now (load .exit)) (now (mark .exit)) given wanted (sumTo nodes (λ u. nth (now (surplus .entry)) u))) ⌝ }
+    ensures { λ _. ⌜ (length (now (load .exit)) ≡ mostEdges) × (length (now (mark .exit)) ≡ mostNodes) ⌝ }
+{
+    let mut headout = [0usize; NODES];
+    let mut nextout = [0usize; EDGES];
+    chain(nodes, edges, from, &mut headout, &mut nextout);
+    if guess_stands(
+        nodes,
+        edges,
+        fuel,
+        from,
+        to,
+        cost,
+        &headout,
+        &nextout,
+        surplus,
+        deficit,
+        load,
+        mark,
+    ) {
+        return;
+    }
+    set_back(nodes, edges, load, mark);
+    let mut headin = [0usize; NODES];
+    let mut nextin = [0usize; EDGES];
+    chain(nodes, edges, to, &mut headin, &mut nextin);
+    carry_slowly(
+        nodes,
+        edges,
+        live,
+        from,
+        to,
+        cost,
+        &headout,
+        &nextout,
+        &headin,
+        &nextin,
+        load,
+        mark,
+        surplus,
+        deficit,
+    );
 }

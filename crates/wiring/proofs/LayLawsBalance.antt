@@ -1,66 +1,15 @@
--- Laws of summing the loads at the nodes: a turn of each loop, and what the surpluses and deficits come to in all.
+-- Laws of the surpluses and deficits: a turn of the loop that takes the lesser off the greater, and what they come to in all.
 use Prim.Native.Nat.{ℕ, zero, suc, _+_, _*_, _-_, _≤_, _<_}
 use native.Mathlib.Omega.{arith}
-use native.Mathlib.Numerals.{add-one}
 use mathlib.Core.Path.{_≡_, refl, sym, ap, ap₂, subst₂, _∙_}
 use mathlib.Core.List.{List}
 use mathlib.Core.Logic.{_⊎_, inl, inr, ⊎-elim, _≢_}
 use lib.ListN.{length, set, length-set}
 use lib.Seq.{getD-set-same, getD-set-other}
-use Rattle.network.specs.Network.{nth, sumTo, share, leaving, entering, mostNodes, mostEdges}
-use Rattle.wiring.specs.Lay.{Summable, Tallied, Netted, Balanced}
-use Rattle.forms.specs.Limits.{maxDemand}
-use Rattle.network.proofs.NetworkLaws.{same-or-not, nth-set, sum-same, sum-none, share-same, share-other, share-most}
+use Rattle.network.specs.Network.{nth, sumTo, share, leaving, entering, mostNodes, Summable, Tallied}
+use Rattle.wiring.specs.Lay.{Netted, Balanced}
+use Rattle.network.proofs.NetworkLaws.{same-or-not, sum-same, sum-none, share-same, share-other}
 use Rattle.wiring.proofs.SlotLaws.{sum-single, sum-add, sum-most}
-
-sum-more : (k : ℕ) (f : ℕ → ℕ) → sumTo (k + 1) f ≡ sumTo k f + f k
-sum-more k f = ap (λ j. sumTo j f) (add-one k)
-
--- of k numbers that are no more than a million each
-pub sum-low : (k : ℕ) (f : ℕ → ℕ) → ((v : ℕ) → v < k → f v ≤ maxDemand) → sumTo k f ≤ k * maxDemand
-sum-low zero f h = omega arith
-sum-low (suc k) f h = omega (arith, sum-low k f (λ v l. h v (omega arith)), h k (omega arith))
-
--- ---- sums at the nodes, of loads on edges with the ends `key`
-
--- one end: `key` is `from` or `to`, and xs holds what is summed so far
-added : (N e : ℕ) (key load xs : List ℕ) → length xs ≡ mostNodes → N ≤ mostNodes → nth key e < N →
-    ((u : ℕ) → u < N → nth xs u ≡ sumTo e (λ d. share u (nth key d) (nth load d))) →
-    (u : ℕ) → u < N → nth (set xs (nth key e) (nth xs (nth key e) + nth load e)) u ≡ sumTo (e + 1) (λ d. share u (nth key d) (nth load d))
-added N e key load xs long few node each u h =
-    ⊎-elim
-    (λ w. w .1 ∙ ap (λ k. nth xs k + nth load e) (sym (w .0)) ∙ omega (arith, each u h, sum-more e f, share-same u (nth key e) (nth load e) (w .0)))
-    (λ w. w .1 ∙ omega (arith, each u h, sum-more e f, share-other u (nth key e) (nth load e) (w .0)))
-    (nth-set xs (nth key e) (nth xs (nth key e) + nth load e) u (omega arith))
-  where
-    f : ℕ → ℕ
-    f d = share u (nth key d) (nth load d)
-
-sum-fits : (N E e : ℕ) (key load xs : List ℕ) → ((d : ℕ) → d < E → nth load d ≤ maxDemand) → e ≤ E →
-    ((u : ℕ) → u < N → nth xs u ≡ sumTo e (λ d. share u (nth key d) (nth load d))) → (u : ℕ) → u < N → nth xs u ≤ e * maxDemand
-sum-fits N E e key load xs low l each u h =
-    omega (arith, each u h, sum-low e (λ d. share u (nth key d) (nth load d)) (λ d b. omega (arith, share-most u (nth key d) (nth load d), low d (omega arith))))
-
-module _ {N E : ℕ} {from to load : List ℕ} (S : Summable N E from to load) {e : ℕ} {into out : List ℕ} (t : Tallied N e from to load into out) (l : e < E) where
-  pub tally-into-fits : nth into (nth to e) + nth load e ≤ mostEdges * maxDemand
-  unfolding entering
-  tally-into-fits =
-      omega (arith, sum-fits N E e to load into (S .low) (omega arith) (t .entered) (nth to e) (S .to-node e l), S .low e l, S .few-edges)
-
-  pub tally-out-fits : nth out (nth from e) + nth load e ≤ mostEdges * maxDemand
-  unfolding leaving
-  tally-out-fits =
-      omega (arith, sum-fits N E e from load out (S .low) (omega arith) (t .left) (nth from e) (S .from-node e l), S .low e l, S .few-edges)
-
-  pub tally-more : Tallied N (e + 1) from to load (set into (nth to e) (nth into (nth to e) + nth load e)) (set out (nth from e) (nth out (nth from e) + nth load e))
-  unfolding entering leaving
-  tally-more =
-      record {
-        into-long = simp length-set (t .into-long);
-        out-long = simp length-set (t .out-long);
-        entered = added N e to load into (t .into-long) (S .few-nodes) (S .to-node e l) (t .entered);
-        left = added N e from load out (t .out-long) (S .few-nodes) (S .from-node e l) (t .left);
-      }
 
 -- ---- the difference at each node
 
@@ -149,14 +98,14 @@ module _ {N E : ℕ} {from to load surplus deficit : List ℕ} (S : Summable N E
         sum-same N (λ u. nth surplus u + leaving from load E u) (λ u. nth deficit u + entering to load E u) (B .balance),
         sum-add N (λ u. nth surplus u) (leaving from load E),
         sum-add N (λ u. nth deficit u) (entering to load E),
-        sum-ends N E from load (S .from-node),
-        sum-ends N E to load (S .to-node),
+        sum-ends N E from load (S .ends .from-node),
+        sum-ends N E to load (S .ends .to-node),
       )
 
   -- and no more than there is on all edges
   pub balance-low : sumTo N (λ u. nth surplus u) ≤ sumTo E (nth load)
   unfolding entering
-  balance-low = omega (arith, sum-most N (λ u. nth surplus u) (entering to load E) each, sum-ends N E to load (S .to-node))
+  balance-low = omega (arith, sum-most N (λ u. nth surplus u) (entering to load E) each, sum-ends N E to load (S .ends .to-node))
     where
       each : (u : ℕ) → u < N → nth surplus u ≤ entering to load E u
       each u h = ⊎-elim (λ z. omega arith) (λ z. omega (arith, B .balance u h)) (B .apart u h)

@@ -26,17 +26,17 @@ use Rattle.forms.specs.GraphOf.{vertexOf, arcOf, graphOf, arcItem}
 use Rattle.forms.specs.GraphReads.{Reads}
 use Rattle.forms.proofs.ArcNumbers.{arc-among, arc-number}
 use Rattle.forms.proofs.GraphFacts.{graph-well-formed, graph-room}
-use Rattle.network.specs.Network.{nth, liveAt, sumTo, Way, stop, step, base, span, Shape, Keys, Waiting, leaving, entering, share, mostNodes, mostEdges, mostMoved, mostCost, mostSteps, stepCost}
+use Rattle.network.specs.Network.{nth, liveAt, sumTo, Way, stop, step, base, span, Shape, Summable, Waiting, leaving, entering, share, mostNodes, mostEdges, mostMoved, mostCost, mostSteps, stepCost}
 use Rattle.paths.specs.Slots.{preparedOf, plainSlots, allSlots, acrossSlot, openingSlot, closingSlot, readingSlot, linkAt, liveNode, inUse, edgeFrom, edgeTo, edgeCost, firstLoad}
-use Rattle.wiring.specs.Lay.{EdgesLaid, LoadsLaid, LiveLaid, Summable, Balanced}
+use Rattle.wiring.specs.Lay.{EdgesLaid, LoadsLaid, LiveLaid, Balanced}
 use Rattle.reads.specs.ReadTable.{tableRows}
 use Rattle.forms.specs.Limits.{roomVertices, maxDemand}
-use Rattle.network.proofs.NetworkLaws.{same-or-not, below-or-not, sum-same, sum-none, sum-ones, share-other}
+use Rattle.network.proofs.NetworkLaws.{same-or-not, below-or-not, sum-same, sum-none, sum-ones, sum-low, share-other}
 use Rattle.paths.proofs.SlotKinds.{SlotKind, is-inside, is-across, is-opening, is-closing, slot-kind, at-reading}
 use Rattle.wiring.proofs.SlotLaws.{first-inside, first-across, first-end, useful-below, sum-split, sum-most}
 use Rattle.wiring.proofs.LayLaws.{EdgeIs, inside-edge, across-edge, opening-edge, closing-edge, listed, few-plain}
 use Rattle.wiring.proofs.LayLawsLoad.{live-root, live-in, live-out, first-behind}
-use Rattle.wiring.proofs.LayLawsBalance.{sum-low, balance-same, balance-low}
+use Rattle.wiring.proofs.LayLawsBalance.{balance-same, balance-low}
 
 low-cond : (c : ℕ) (t : Bool) (x y : ℕ) → x ≤ c → y ≤ c → cond t x y ≤ c
 low-cond c true x y h k = h
@@ -305,7 +305,7 @@ module _ (s : List ℕ) (r : Reads s) where
         arith,
         ap (λ k. sumTo k (firstLoad s)) parts,
         sum-split (vertexCount s + arcCount s) (2 * vertexCount s + length (preparedOf s)) (firstLoad s),
-        sum-low (vertexCount s + arcCount s) (firstLoad s) (λ e l. low-load e (omega arith)),
+        sum-low maxDemand (vertexCount s + arcCount s) (firstLoad s) (λ e l. low-load e (omega arith)),
         sum-split (2 * vertexCount s) (length (preparedOf s)) behind,
         sum-none (2 * vertexCount s) behind (λ e l. first-end s (vertexCount s + arcCount s + e) (omega arith) (omega arith)),
         sum-most (length (preparedOf s)) (λ j. behind (2 * vertexCount s + j)) (λ j. 1) (λ j l. one (2 * vertexCount s + j)),
@@ -379,15 +379,22 @@ module _ (s : List ℕ) (r : Reads s) where
             subst (λ x. T (inUse s x)) (sym (ap (linkAt s) q ∙ at-reading s (e - plainSlots s))) tt
 
     module _ (from to cost first : List ℕ) (laid : EdgesLaid s (allSlots s) from to cost) (loads : LoadsLaid s (allSlots s) first) where
+      -- the first loads are low
+      pub loads-low : (e : ℕ) → e < allSlots s → nth first e ≤ maxDemand
+      loads-low e h = omega (arith, loads .is e h, low-load e h)
+
       -- What summing the loads at the nodes asks for.
       pub summable : Summable nodesOf (allSlots s) from to first
       summable =
           record {
-            few-nodes = omega (arith, few);
-            few-edges = omega (arith, few-plain r, few-reads);
-            from-node = λ e h. omega (arith, laid .from-is e h, ends-live e h .0 .0);
-            to-node = λ e h. omega (arith, laid .to-is e h, ends-live e h .1 .0);
-            low = λ e h. omega (arith, loads .is e h, low-load e h);
+            ends = record {
+              some-node = omega arith;
+              few-nodes = omega (arith, few);
+              few-edges = omega (arith, few-plain r, few-reads);
+              from-node = λ e h. omega (arith, laid .from-is e h, ends-live e h .0 .0);
+              to-node = λ e h. omega (arith, laid .to-is e h, ends-live e h .1 .0);
+            };
+            low = λ e h. omega (arith, loads-low e h);
           }
 
       -- a node that is not live is no edge's end
@@ -430,10 +437,3 @@ module _ (s : List ℕ) (r : Reads s) where
               same-sum = balance-sums .0;
               few = balance-sums .1;
             }
-
--- What building the chains asks for.
-pub keys-from : {N E : ℕ} {live : List Bool} {from to cost : List ℕ} → Shape N E live from to cost → (head next : List ℕ) → length head ≡ mostNodes → length next ≡ mostEdges → Keys N E from head next
-keys-from S head next h n = record { few-nodes = S .few-nodes; few-edges = S .few-edges; key-node = λ e l. S .from-live e l .0; head-long = h; next-long = n }
-
-pub keys-to : {N E : ℕ} {live : List Bool} {from to cost : List ℕ} → Shape N E live from to cost → (head next : List ℕ) → length head ≡ mostNodes → length next ≡ mostEdges → Keys N E to head next
-keys-to S head next h n = record { few-nodes = S .few-nodes; few-edges = S .few-edges; key-node = λ e l. S .to-live e l .0; head-long = h; next-long = n }

@@ -12,7 +12,6 @@ use Rattle.forms.specs.GraphForm.{vertexCount, arcCount}
 use Rattle.forms.specs.GraphOf.{arcItem}
 use Rattle.network.specs.Network.{nth, liveAt, leaving, entering, mostNodes, mostEdges}
 use Rattle.paths.specs.Slots.{preparedOf, liveNode, edgeFrom, edgeTo, edgeCost, firstLoad}
-use Rattle.forms.specs.Limits.{maxDemand}
 
 -- an edge is stored at place e: with its ends and its cost where it is used, and else as a loop of cost 0 at the root
 pub record Stored (e : ℕ) (used : Bool) (a b k : ℕ) (from to cost from' to' cost' : List ℕ) : Type 0 where
@@ -45,21 +44,6 @@ pub record LoadsLaid (s : List ℕ) (k : ℕ) (load : List ℕ) : Type 0 where
 pub record LiveLaid (s : List ℕ) (k : ℕ) (live : List Bool) : Type 0 where
   pub long : length live ≡ mostNodes
   pub is : (u : ℕ) → u < k → liveAt live u ≡ liveNode s u
-
--- what it takes to sum the loads at the nodes: ends are nodes, and loads are low
-pub record Summable (N E : ℕ) (from to load : List ℕ) : Type 0 where
-  pub few-nodes : N ≤ mostNodes
-  pub few-edges : E ≤ mostEdges
-  pub from-node : (e : ℕ) → e < E → nth from e < N
-  pub to-node : (e : ℕ) → e < E → nth to e < N
-  pub low : (e : ℕ) → e < E → nth load e ≤ maxDemand
-
--- `into` and `out` hold what enters and what leaves each node on the edges below e
-pub record Tallied (N e : ℕ) (from to load into out : List ℕ) : Type 0 where
-  pub into-long : length into ≡ mostNodes
-  pub out-long : length out ≡ mostNodes
-  pub entered : (u : ℕ) → u < N → nth into u ≡ entering to load e u
-  pub left : (u : ℕ) → u < N → nth out u ≡ leaving from load e u
 
 -- of what enters and what leaves each node below k, the difference stands where there is more of it, and 0 on the other side
 pub record Netted (k : ℕ) (into out surplus deficit : List ℕ) : Type 0 where

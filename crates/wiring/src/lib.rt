@@ -14,6 +14,7 @@ use forms::roles::is_end;
 use forms::roles::is_start;
 use network::EDGES;
 use network::NODES;
+use network::stands::tally;
 use reads::ROW;
 use reads::ROWS;
 ghost use mathlib.Core.Path.{_≡_};
@@ -27,10 +28,10 @@ ghost use Rattle.forms.specs.GraphOf.{graphOf};
 ghost use Rattle.forms.specs.GraphReads.{Reads};
 ghost use Rattle.forms.specs.Roles.{Roles};
 ghost use Rattle.reads.specs.ReadTable.{Leaves, tableRows};
-ghost use Rattle.network.specs.Network.{mostNodes, mostEdges};
+ghost use Rattle.network.specs.Network.{mostNodes, mostEdges, Summable, Tallied};
 ghost use Rattle.paths.specs.Slots.{preparedOf, plainSlots, allSlots};
 ghost use Rattle.reach.specs.Reached.{Tells};
-ghost use Rattle.wiring.specs.Lay.{Stored, EdgesLaid, VerticesCounted, ArcsCounted, LoadsLaid, LiveLaid, Summable, Tallied, Netted, Balanced};
+ghost use Rattle.wiring.specs.Lay.{Stored, EdgesLaid, VerticesCounted, ArcsCounted, LoadsLaid, LiveLaid, Netted, Balanced};
 
 pub fn both(a: bool, b: bool) -> bool
     ensures { λ r. ⌜ r ≡ a && b ⌝ }
@@ -311,30 +312,6 @@ pub fn lay_live(s: &[u8], kept: &[bool; Graph::ROOM_VERTICES], live: &mut [bool;
         live[2 * v + 1] = kept[v];
         live[2 * v + 2] = kept[v];
         v += 1;
-    }
-}
-
-// Sums what enters and what leaves each node, in sums that are 0 before.
-fn tally(
-    nodes: usize,
-    edges: usize,
-    from: &[usize; EDGES],
-    to: &[usize; EDGES],
-    load: &[u64; EDGES],
-    into: &mut [u64; NODES],
-    out: &mut [u64; NODES],
-)
-    requires { ⌜ Summable nodes edges (now from) (now to) (now load) ⌝ }
-    requires { ⌜ Tallied nodes 0 (now from) (now to) (now load) (now into) (now out) ⌝ }
-    ensures { λ _. ⌜ Tallied nodes edges (now (from .entry)) (now (to .entry)) (now (load .entry)) (now (into .exit)) (now (out .exit)) ⌝ }
-{
-    let mut e = 0;
-    while e < edges {
-        let u = from[e];
-        let v = to[e];
-        into[v] = into[v] + load[e];
-        out[u] = out[u] + load[e];
-        e += 1;
     }
 }
 

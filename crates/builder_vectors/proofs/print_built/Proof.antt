@@ -14,18 +14,18 @@ use Rattle.builder_vectors.proofs.print_built.Tie as tie
 price-inside : (s : List ℕ) {n : ℕ} → 23 ≤ n → answerHeaderLength s ≤ n
 price-inside s h = omega (arith, parts-few s)
 
-slice-aggregate-build : tie.Need-slice-aggregate-build
-slice-aggregate-build c = search needs
+slice-aggregate-build-within : tie.Need-slice-aggregate-build-within
+slice-aggregate-build-within c = search needs
 
-build-requires : tie.Need-build-requires
-build-requires c κs = search needs
+build-within-requires : tie.Need-build-within-requires
+build-within-requires c κs = search needs
 
 array-share-prefix-out : tie.Need-array-share-prefix-out
 array-share-prefix-out c = search needs
 
 slice-aggregate-check : tie.Need-slice-aggregate-check
 slice-aggregate-check c =
-    let p = c .before .before .build .ensures in
+    let p = c .before .before .build-within .ensures in
     sym (length-take-le _ _ (omega (arith, p .fits, p .same-length)))
 
 check-requires : tie.Need-check-requires
@@ -62,8 +62,8 @@ pub print-built-spec : {M : Type 1} → statement M
 print-built-spec =
     tie.close
     (tie.spec
-    slice-aggregate-build
-    build-requires
+    slice-aggregate-build-within
+    build-within-requires
     array-share-prefix-out
     slice-aggregate-check
     check-requires

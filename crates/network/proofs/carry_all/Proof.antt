@@ -1,58 +1,44 @@
--- `network::carry_all` meets its contract. The loop's invariant: the state between rounds, what changed since the start, and that the first u
--- nodes have no surplus. When no node has one, no node has a deficit either, for the sums are the same. Assumes nothing.
-use Prim.Native.Nat.{_≤_, _-_}
-use native.Mathlib.Omega.{arith}
-use Rattle.network.specs.Network.{Carrying, Carries}
-use Rattle.network.proofs.NetworkLawsCarry.{carries-none, carries-more, Gone, gone-none, gone-more, waiting-carries, all-carried}
+-- `network::carry_all` meets its contract: what stands the test carries everything, and else what is carried slowly does. Assumes nothing.
+use Prim.Native.Nat.{ℕ}
+use lib.ListN.{length-replicate}
+use Rattle.network.specs.Network.{mostNodes, mostEdges}
+use Rattle.network.proofs.NetworkLawsStand.{shape-ends, keys-from, keys-to, stands-carried, waiting-movable, waiting-again}
+use borrow.Author.Needs.{needs}
 use Rattle.network.proofs.carry_all.Statement.{statement}
 use Rattle.network.proofs.carry_all.Tie as tie
 
-abbrev Inv-loop : tie.InvT-loop
-Inv-loop nodes edges live from to cost headout nextout headin nextin load₀ mark₀ surplus₀ deficit₀ u₀ load mark surplus deficit u =
-    (u ≤ nodes) × Carrying nodes edges live from to cost load mark surplus deficit × Carries nodes edges from to load₀ surplus₀ deficit₀ load surplus deficit × Gone u surplus
+chain-requires : tie.Need-chain-requires
+chain-requires c κs = keys-from _ _ _ _ _ _ (c .before .before .pre .0) _ _ (length-replicate {A = ℕ} mostNodes 0) (length-replicate {A = ℕ} mostEdges 0)
 
-abbrev μ-loop : tie.MeasureT-loop
-μ-loop nodes edges live from to cost headout nextout headin nextin load₀ mark₀ surplus₀ deficit₀ u₀ load mark surplus deficit u = nodes - u
+guess-stands-requires : tie.Need-guess-stands-requires
+guess-stands-requires c κs = let p = c .before .before .before .before .before .before .before .before .before .pre in ((shape-ends _ _ _ _ _ _ (p .0), waiting-movable _ _ _ _ _ _ _ (p .0 .few-nodes) (p .1)), (record { long = p .1 .load-long }, record { long = p .1 .mark-long }))
 
-loop-holds : tie.Need-loop-holds Inv-loop μ-loop
-loop-holds c =
-    let p = c .pre in
-    (omega arith, waiting-carries _ _ _ _ _ _ _ _ _ _ (p .0) (p .1 .1 .1), carries-none _ _ _ _ _ _ _, gone-none _)
+returns : tie.Need-returns
+returns c = let g = c .before .guess-stands .ensures in (stands-carried _ _ _ _ _ _ (c .before .before .before .before .before .before .before .before .before .before .before .pre .0) _ _ _ _ (g .0 (c .if1 .taken)), (g .1 .0 .long, g .1 .1 .long))
 
-carry-from-requires : tie.Need-carry-from-requires Inv-loop μ-loop
-carry-from-requires c κs =
-    let p = c .before .before .before .before .before .before .pre in
-    (p .0, (p .1 .0, (p .1 .1 .0, (c .before .before .before .before .before .loop .inv .1, c .before .before .before .before .loop-test .taken))))
+set-back-requires : tie.Need-set-back-requires
+set-back-requires c κs = search needs
 
-add-u : tie.Need-add-u Inv-loop μ-loop
-add-u c = omega arith
+chain-requires-2 : tie.Need-chain-requires-2
+chain-requires-2 c κs = keys-to _ _ _ _ _ _ (c .before .before .before .before .before .before .before .before .before .before .before .before .before .before .before .before .pre .0) _ _ (length-replicate {A = ℕ} mostNodes 0) (length-replicate {A = ℕ} mostEdges 0)
 
-loop-less : tie.Need-loop-less Inv-loop μ-loop
-loop-less c = omega arith
+carry-slowly-requires : tie.Need-carry-slowly-requires
+carry-slowly-requires c κs =
+    let p = c .before .before .before .before .before .before .before .before .before .before .before .before .before .before .before .before .before .before .before .before .before .before .before .before .before .pre in
+    let z = c .before .before .before .before .before .before .before .before .before .before .before .set-back .ensures in
+    (p .0, (c .before .before .before .before .before .before .before .before .before .before .before .before .before .before .before .before .before .before .before .before .before .before .chain .ensures, (c .before .before .before .before .before .before .before .before .chain2 .ensures, waiting-again _ _ _ _ _ _ _ _ _ (p .1) (z .0) (z .1))))
 
-loop-again : tie.Need-loop-again Inv-loop μ-loop
-loop-again c =
-    let i = c .before .before .before .before .before .before .loop .inv in
-    let e = c .carry-from .ensures in
-    (omega arith, e .0, carries-more _ _ _ _ _ _ _ _ _ _ _ _ _ (i .2) (e .1 .0), gone-more _ _ _ (i .3) (e .1 .1 .0) (e .1 .1 .1))
-
-returns : tie.Need-returns Inv-loop μ-loop
-returns c =
-    let p = c .before .before .pre in
-    let i = c .before .loop .inv in (
-      all-carried _ _ _ _ _ _ _ _ _ _ (p .0) (p .1 .1 .1) _ _ _ _ (i .1) (i .2) _ (i .3) (c .loop-test .left),
-      (i .1 .load-long, i .1 .mark-long),
-    )
+returns-2 : tie.Need-returns-2
+returns-2 c = search needs
 
 pub carry-all-spec : {M : Type 1} → statement M
 carry-all-spec =
     tie.close
     (tie.spec
-    Inv-loop
-    μ-loop
-    loop-holds
-    carry-from-requires
-    add-u
-    loop-less
-    loop-again
-    returns)
+    chain-requires
+    guess-stands-requires
+    returns
+    set-back-requires
+    chain-requires-2
+    carry-slowly-requires
+    returns-2)

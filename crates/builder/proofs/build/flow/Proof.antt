@@ -19,20 +19,20 @@ add-plain c = search needs
 lay-network-requires : tie.Need-lay-network-requires
 lay-network-requires c κs = let q = c .before .before .before .before .before .before .before .before .before .before .pre .1 .1 in (c .before .before .before .before .before .before .before .before .before .before .pre .0, (c .before .before .before .before .before .before .before .before .before .before .pre .1 .0, blank _ _ _ (q .0) (q .1) (q .2)))
 
-mul-carry : tie.Need-mul-carry
-mul-carry c = search needs
+mul-carry-all : tie.Need-mul-carry-all
+mul-carry-all c = search needs
 
-add-carry : tie.Need-add-carry
-add-carry c = search needs
+add-carry-all : tie.Need-add-carry-all
+add-carry-all c = search needs
 
-carry-requires : tie.Need-carry-requires
-carry-requires c κs = to-carry _ _ (c .before .before .before .before .before .before .before .before .before .before .before .before .before .before .before .before .before .before .before .pre .0 .0) _ _ (c .before .before .before .before .before .before .before .before .before .before .before .before .before .before .before .before .before .vertex-count .ensures .0) (c .before .before .before .before .before .before .before .before .before .before .before .before .before .before .before .before .arc-count .ensures .0) _ _ _ _ _ _ _ (c .before .before .before .before .before .before .before .before .lay-network .ensures) _ (c .before .before .before .before .before .before .before .before .before .before .before .before .before .before .before .before .before .before .before .pre .1 .1 .3)
+carry-all-requires : tie.Need-carry-all-requires
+carry-all-requires c κs = to-carry _ _ (c .before .before .before .before .before .before .before .before .before .before .before .before .before .before .before .before .before .before .before .pre .0 .0) _ _ (c .before .before .before .before .before .before .before .before .before .before .before .before .before .before .before .before .before .vertex-count .ensures .0) (c .before .before .before .before .before .before .before .before .before .before .before .before .before .before .before .before .arc-count .ensures .0) _ _ _ _ _ _ _ (c .before .before .before .before .before .before .before .before .lay-network .ensures) _ (c .before .before .before .before .before .before .before .before .before .before .before .before .before .before .before .before .before .before .before .pre .1 .1 .3)
 
 add-loads-requires : tie.Need-add-loads-requires
-add-loads-requires c κs = to-add _ _ (c .before .before .before .before .before .before .before .before .before .before .before .before .before .before .before .before .before .before .before .before .before .before .before .before .pre .0 .0) _ _ (c .before .before .before .before .before .before .before .before .before .before .before .before .before .before .before .before .before .before .before .before .before .before .vertex-count .ensures .0) (c .before .before .before .before .before .before .before .before .before .before .before .before .before .before .before .before .before .before .before .before .before .arc-count .ensures .0) _ _ _ _ _ _ _ (c .before .before .before .before .before .before .before .before .before .before .before .before .before .lay-network .ensures) _ _ (c .before .before .before .before .carry .ensures .0) (c .before .before .before .before .carry .ensures .1 .0)
+add-loads-requires c κs = to-add _ _ (c .before .before .before .before .before .before .before .before .before .before .before .before .before .before .before .before .before .before .before .before .before .before .before .before .pre .0 .0) _ _ (c .before .before .before .before .before .before .before .before .before .before .before .before .before .before .before .before .before .before .before .before .before .before .vertex-count .ensures .0) (c .before .before .before .before .before .before .before .before .before .before .before .before .before .before .before .before .before .before .before .before .before .arc-count .ensures .0) _ _ _ _ _ _ _ (c .before .before .before .before .before .before .before .before .before .before .before .before .before .lay-network .ensures) _ _ (c .before .before .before .before .carry-all .ensures .0) (c .before .before .before .before .carry-all .ensures .1 .0)
 
 returns : tie.Need-returns
-returns c = flow-done _ _ (c .before .before .before .before .before .before .before .before .before .before .before .before .before .before .before .before .before .before .before .before .before .before .before .before .before .pre .0 .0) _ _ (c .before .before .before .before .before .before .before .before .before .before .before .before .before .before .before .before .before .before .before .before .before .before .before .vertex-count .ensures .0) (c .before .before .before .before .before .before .before .before .before .before .before .before .before .before .before .before .before .before .before .before .before .before .arc-count .ensures .0) _ _ _ _ _ _ _ (c .before .before .before .before .before .before .before .before .before .before .before .before .before .before .lay-network .ensures) _ _ (c .before .before .before .before .before .carry .ensures .0) _ _ (c .add-loads .ensures)
+returns c = flow-done _ _ (c .before .before .before .before .before .before .before .before .before .before .before .before .before .before .before .before .before .before .before .before .before .before .before .before .before .pre .0 .0) _ _ (c .before .before .before .before .before .before .before .before .before .before .before .before .before .before .before .before .before .before .before .before .before .before .before .vertex-count .ensures .0) (c .before .before .before .before .before .before .before .before .before .before .before .before .before .before .before .before .before .before .before .before .before .before .arc-count .ensures .0) _ _ _ _ _ _ _ (c .before .before .before .before .before .before .before .before .before .before .before .before .before .before .lay-network .ensures) _ _ (c .before .before .before .before .before .carry-all .ensures .0) _ _ (c .add-loads .ensures)
 
 pub flow-spec : {M : Type 1} → statement M
 flow-spec =
@@ -43,8 +43,8 @@ flow-spec =
     mul-plain
     add-plain
     lay-network-requires
-    mul-carry
-    add-carry
-    carry-requires
+    mul-carry-all
+    add-carry-all
+    carry-all-requires
     add-loads-requires
     returns)

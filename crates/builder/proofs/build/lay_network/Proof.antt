@@ -1,5 +1,6 @@
 -- `builder::build::lay_network` meets its contract: edges, loads, live nodes and balance are laid one after another, each over what the others left. Assumes nothing.
-use Rattle.builder.proofs.FinishLawsStages.{leaves-count, edges-none, loads-none, laid-summable, laid-balance, tally-none}
+use Rattle.builder.proofs.FinishLawsStages.{leaves-count, edges-none, loads-none, laid-summable, laid-balance}
+use Rattle.network.proofs.NetworkLawsStand.{tally-none}
 use native.Mathlib.Omega.{arith}
 use borrow.Author.Needs.{needs}
 use Rattle.builder.proofs.build.lay_network.Statement.{statement}
@@ -36,7 +37,7 @@ add-lay-balance-3 : tie.Need-add-lay-balance-3
 add-lay-balance-3 c = omega (arith, c .before .before .before .before .before .before .before .before .before .before .before .pre .1 .0 .table .table .counted, c .before .before .before .before .before .before .before .before .before .vertex-count .ensures .1, c .before .before .before .before .before .before .before .before .arc-count .ensures .1)
 
 lay-balance-requires : tie.Need-lay-balance-requires
-lay-balance-requires c κs = let Y = c .before .before .before .before .before .before .before .before .before .before .before .before .before .before .before .before .pre .0 .0 in let K = c .before .before .before .before .before .before .before .before .before .before .before .before .before .before .before .before .pre .1 .1 in (laid-summable _ _ _ _ (c .before .before .before .before .before .before .before .before .before .before .before .before .before .before .vertex-count .ensures .0) (c .before .before .before .before .before .before .before .before .before .before .before .before .before .arc-count .ensures .0) (leaves-count _ _ _ _ (c .before .before .before .before .before .before .before .before .before .before .before .before .before .before .before .before .pre .1 .0 .table)) (Y .reads) (Y .coverable) _ _ _ _ (c .before .before .before .before .before .before .before .before .before .lay-edges .ensures) (c .before .before .before .before .before .before .before .lay-loads .ensures), tally-none _ _ _ _ _ _ (K .surplus-long) (K .deficit-long) (K .no-surplus) (K .no-deficit))
+lay-balance-requires c κs = let Y = c .before .before .before .before .before .before .before .before .before .before .before .before .before .before .before .before .pre .0 .0 in let K = c .before .before .before .before .before .before .before .before .before .before .before .before .before .before .before .before .pre .1 .1 in (laid-summable _ _ _ _ (c .before .before .before .before .before .before .before .before .before .before .before .before .before .before .vertex-count .ensures .0) (c .before .before .before .before .before .before .before .before .before .before .before .before .before .arc-count .ensures .0) (leaves-count _ _ _ _ (c .before .before .before .before .before .before .before .before .before .before .before .before .before .before .before .before .pre .1 .0 .table)) (Y .reads) (Y .coverable) _ _ _ _ (c .before .before .before .before .before .before .before .before .before .lay-edges .ensures) (c .before .before .before .before .before .before .before .lay-loads .ensures), tally-none _ _ _ _ _ _ (K .surplus-long) (K .deficit-long) (λ u l. K .no-surplus u) (λ u l. K .no-deficit u))
 
 returns : tie.Need-returns
 returns c = record { edges = c .before .before .before .before .before .before .before .before .before .before .lay-edges .ensures; loads = c .before .before .before .before .before .before .before .before .lay-loads .ensures; nodes = c .before .before .before .before .before .before .lay-live .ensures; balance = laid-balance _ _ _ _ (c .before .before .before .before .before .before .before .before .before .before .before .before .before .before .before .vertex-count .ensures .0) (c .before .before .before .before .before .before .before .before .before .before .before .before .before .before .arc-count .ensures .0) (leaves-count _ _ _ _ (c .before .before .before .before .before .before .before .before .before .before .before .before .before .before .before .before .before .pre .1 .0 .table)) _ _ _ _ _ (c .lay-balance .ensures) }

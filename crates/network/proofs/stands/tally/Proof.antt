@@ -1,11 +1,12 @@
-use Rattle.wiring.proofs.LayLawsBalance.{tally-into-fits, tally-out-fits, tally-more}
+-- `network::stands::tally` meets its contract. The loop's invariant: the sums hold what the first e edges carry. Assumes nothing.
+use Rattle.network.proofs.NetworkLawsStand.{tally-into-fits, tally-out-fits, tally-more}
 use Prim.Native.Nat.{_-_, _≤_}
 use native.Mathlib.Omega.{arith}
 use mathlib.Core.Path.{_≡_}
-use Rattle.wiring.specs.Lay.{Tallied}
+use Rattle.network.specs.Network.{Tallied}
 use borrow.Author.Needs.{needs}
-use Rattle.wiring.proofs.tally.Statement.{statement}
-use Rattle.wiring.proofs.tally.Tie as tie
+use Rattle.network.proofs.stands.tally.Statement.{statement}
+use Rattle.network.proofs.stands.tally.Tie as tie
 
 abbrev Inv-loop : tie.InvT-loop
 Inv-loop nodes edges from to load into₀ out₀ e₀ into out e = (e ≤ edges) × Tallied nodes e from to load into out
@@ -29,10 +30,10 @@ element-copy-out-v : tie.Need-element-copy-out-v Inv-loop μ-loop
 element-copy-out-v c = search needs
 
 mul-into : tie.Need-mul-into Inv-loop μ-loop
-mul-into c = omega (arith, c .before .before .before .before .pre .0 .to-node (c .before .before .before .loop .e) (omega arith), c .before .before .before .before .pre .0 .few-nodes)
+mul-into c = omega (arith, c .before .before .before .before .pre .0 .ends .to-node (c .before .before .before .loop .e) (omega arith), c .before .before .before .before .pre .0 .ends .few-nodes)
 
 element-copy-out-into : tie.Need-element-copy-out-into Inv-loop μ-loop
-element-copy-out-into c = omega (arith, c .before .before .before .before .pre .0 .to-node (c .before .before .before .loop .e) (omega arith), c .before .before .before .before .pre .0 .few-nodes)
+element-copy-out-into c = omega (arith, c .before .before .before .before .pre .0 .ends .to-node (c .before .before .before .loop .e) (omega arith), c .before .before .before .before .pre .0 .ends .few-nodes)
 
 mul-into-2 : tie.Need-mul-into-2 Inv-loop μ-loop
 mul-into-2 c = search needs
@@ -44,16 +45,16 @@ add-into : tie.Need-add-into Inv-loop μ-loop
 add-into c = omega (arith, tally-into-fits (c .before .before .before .before .before .before .pre .0) (c .before .before .before .before .before .loop .inv .1) (c .before .before .before .before .loop-test .taken))
 
 mul-into-3 : tie.Need-mul-into-3 Inv-loop μ-loop
-mul-into-3 c = omega (arith, c .before .before .before .before .before .before .pre .0 .to-node (c .before .before .before .before .before .loop .e) (omega arith), c .before .before .before .before .before .before .pre .0 .few-nodes)
+mul-into-3 c = omega (arith, c .before .before .before .before .before .before .pre .0 .ends .to-node (c .before .before .before .before .before .loop .e) (omega arith), c .before .before .before .before .before .before .pre .0 .ends .few-nodes)
 
 element-write-into : tie.Need-element-write-into Inv-loop μ-loop
-element-write-into c = omega (arith, c .before .before .before .before .before .before .pre .0 .to-node (c .before .before .before .before .before .loop .e) (omega arith), c .before .before .before .before .before .before .pre .0 .few-nodes)
+element-write-into c = omega (arith, c .before .before .before .before .before .before .pre .0 .ends .to-node (c .before .before .before .before .before .loop .e) (omega arith), c .before .before .before .before .before .before .pre .0 .ends .few-nodes)
 
 mul-out : tie.Need-mul-out Inv-loop μ-loop
-mul-out c = omega (arith, c .before .before .before .before .before .before .pre .0 .from-node (c .before .before .before .before .before .loop .e) (omega arith), c .before .before .before .before .before .before .pre .0 .few-nodes)
+mul-out c = omega (arith, c .before .before .before .before .before .before .pre .0 .ends .from-node (c .before .before .before .before .before .loop .e) (omega arith), c .before .before .before .before .before .before .pre .0 .ends .few-nodes)
 
 element-copy-out-out : tie.Need-element-copy-out-out Inv-loop μ-loop
-element-copy-out-out c = omega (arith, c .before .before .before .before .before .before .pre .0 .from-node (c .before .before .before .before .before .loop .e) (omega arith), c .before .before .before .before .before .before .pre .0 .few-nodes)
+element-copy-out-out c = omega (arith, c .before .before .before .before .before .before .pre .0 .ends .from-node (c .before .before .before .before .before .loop .e) (omega arith), c .before .before .before .before .before .before .pre .0 .ends .few-nodes)
 
 mul-out-2 : tie.Need-mul-out-2 Inv-loop μ-loop
 mul-out-2 c = search needs
@@ -65,10 +66,10 @@ add-out : tie.Need-add-out Inv-loop μ-loop
 add-out c = omega (arith, tally-out-fits (c .before .before .before .before .before .before .before .before .pre .0) (c .before .before .before .before .before .before .before .loop .inv .1) (c .before .before .before .before .before .before .loop-test .taken))
 
 mul-out-3 : tie.Need-mul-out-3 Inv-loop μ-loop
-mul-out-3 c = omega (arith, c .before .before .before .before .before .before .before .before .pre .0 .from-node (c .before .before .before .before .before .before .before .loop .e) (omega arith), c .before .before .before .before .before .before .before .before .pre .0 .few-nodes)
+mul-out-3 c = omega (arith, c .before .before .before .before .before .before .before .before .pre .0 .ends .from-node (c .before .before .before .before .before .before .before .loop .e) (omega arith), c .before .before .before .before .before .before .before .before .pre .0 .ends .few-nodes)
 
 element-write-out : tie.Need-element-write-out Inv-loop μ-loop
-element-write-out c = omega (arith, c .before .before .before .before .before .before .before .before .pre .0 .from-node (c .before .before .before .before .before .before .before .loop .e) (omega arith), c .before .before .before .before .before .before .before .before .pre .0 .few-nodes)
+element-write-out c = omega (arith, c .before .before .before .before .before .before .before .before .pre .0 .ends .from-node (c .before .before .before .before .before .before .before .loop .e) (omega arith), c .before .before .before .before .before .before .before .before .pre .0 .ends .few-nodes)
 
 add-e : tie.Need-add-e Inv-loop μ-loop
 add-e c = search needs

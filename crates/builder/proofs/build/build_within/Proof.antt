@@ -1,11 +1,11 @@
--- `builder::build::build` meets its contract: one law of FinishLawsPromise for each way through the call. Assumes nothing.
+-- `builder::build::build_within` meets its contract: one law of FinishLawsPromise for each way through the call. Assumes nothing.
 use Rattle.builder.proofs.FinishLawsPromise.{promise-unread, reads-then, graph-reads, promise-refused, coverable-then, room-then, promise-built}
 use mathlib.Core.Bool.{Bool, false}
 use lib.ListN.{length-replicate}
 use borrow.Author.Needs.{needs}
 use Rattle.forms.specs.Limits.{roomVertices}
-use Rattle.builder.proofs.build.build.Statement.{statement}
-use Rattle.builder.proofs.build.build.Tie as tie
+use Rattle.builder.proofs.build.build_within.Statement.{statement}
+use Rattle.builder.proofs.build.build_within.Tie as tie
 
 read-graph-requires : tie.Need-read-graph-requires
 read-graph-requires c κs = search needs
@@ -40,8 +40,8 @@ same-length c = search needs
 returns-3 : tie.Need-returns-3
 returns-3 c = promise-built _ _ _ (c .before .before .before .before .before .before .before .before .before .before .before .before .before .before .before .before .before .before .before .before .before .before .read-graph .ensures) (c .before .before .before .before .before .before .before .before .before .before .before .before .before .before .before .before .before .before .before .before .if1 .left) _ (c .before .before .before .before .before .before .before .before .before .before .first-lacking .ensures) _ (c .before .before .before .before .before .before .before .before .before .first-refusal .ensures) (c .before .before .before .before .before .before .before .if2 .left) _ _ (c .before .before .answer .ensures)
 
-pub build-spec : {M : Type 1} → statement M
-build-spec =
+pub build-within-spec : {M : Type 1} → statement M
+build-within-spec =
     tie.close
     (tie.spec
     read-graph-requires
