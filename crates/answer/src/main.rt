@@ -1,5 +1,7 @@
 // Reads a graph form from standard input and writes the answer form that the builder makes to standard output, for a file `cover.bin`.
 // A refusal writes nothing there: its line goes to standard error.
+#![tactic(auto)]
+
 ghost use Rattle.answer.specs.Answered.{Answered};
 
 use builder::build::build;

@@ -1,4 +1,6 @@
 // Reads a graph form from standard input and lists the cover that the builder finds for it.
+#![tactic(auto)]
+
 ghost use Rattle.assemble.specs.Assemble.{Assembled};
 
 use builder::build::build;

@@ -1,6 +1,7 @@
 // The builder: from graph bytes to the answer form of a lowest-price cover. It sees only what the reader and checker publish, the mathematics, and its
 // own parts below: reach and refusal 8 (crates/reach), the working network (crates/wiring), the flow of lowest cost (crates/network) and the paths off a
 // flow (crates/paths).
+#![tactic(auto)]
 
 // What a call to build answers: the refusal's number and place (both 0 where nothing is refused), and how many bytes it wrote at the front of the output.
 #[derive(Drop)]

@@ -3,6 +3,8 @@
 // that stands in its output, 1 where it says that it wrote bytes and 0 elsewhere, the check's number of those bytes; then number, place
 // and count of bytes from the builder with an output that is one byte too short. How long an answer is, is the builder's choice. Then it
 // prints the same line again, from a builder whose guess of the flow always fails.
+#![tactic(auto)]
+
 use builder::build::{FUEL, build_within};
 use checker::Answer;
 use checker::check::check;

@@ -1,5 +1,7 @@
 // The library's calls for programs in C and Rust: functions on byte slices and numbers under plain names. From outside a slice is a
 // pointer and a length. Number and place are answered by value, so that only an output is lent to be changed.
+#![tactic(auto)]
+
 ghost use Rattle.std.specs.Prelude.{◌≡◌};
 ghost use Rattle.forms.specs.GraphFaults.{refusal, graph_verdict};
 ghost use Rattle.checker.specs.Check.{check_verdict};

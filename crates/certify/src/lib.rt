@@ -1,4 +1,6 @@
 // Numbers 19, 21 and 22: demands and reads met, no slack below 0, and the bound.
+#![tactic(auto)]
+
 ghost use Rattle.std.specs.Prelude.{◌≡◌, ℕ, ◌+◌, ◌*◌, ◌-◌, ◌<◌, ◌≤◌, length, get_or, take, pos};
 ghost use Rattle.mathematics.specs.Price.{whole};
 ghost use Rattle.mathematics.specs.Bound.{bound};

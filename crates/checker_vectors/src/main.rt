@@ -2,6 +2,8 @@
 // (its length in four bytes, then its bytes), the number of answers to it (four bytes), and each answer: its form in the same way and
 // the number of a path (eight bytes). For each answer the program prints a line: number and place from the check, number and place from
 // the sister call of the hand-out, and the vertices that are handed out.
+#![tactic(auto)]
+
 use records::Next;
 
 fn print_answers(graph: &[u8], answer: &[u8], k: usize) {

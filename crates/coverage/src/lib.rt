@@ -1,4 +1,6 @@
 // Coverage from base counts: an exon's demand is the whole part of its average coverage, bases aligned by length.
+#![tactic(auto)]
+
 ghost use Rattle.std.specs.Prelude.{◌≡◌, ℕ, ◌/◌, ◌<◌, length};
 ghost use Rattle.forms.specs.GraphFaults.{first_fault};
 ghost use Rattle.coverage.specs.Limits.{max_bases, min_length, max_length, min_exons, max_exons};
@@ -30,8 +32,8 @@ impl Coverage {
     // One division. The ranges are the definitions' own.
     pub fn new(bases: u32, length: u32) -> Coverage
         ensures value { result ≡ coverage_of bases length }
-        ensures* counts { do ⌜ ((← (⟦Coverage::MAX_BASES⟧).entry) ≡ max_bases) × ((← (⟦Coverage::MIN_LENGTH⟧).entry) ≡ min_length) × ((← (⟦Coverage::MAX_LENGTH⟧).entry) ≡ max_length) ⌝ }
-        ensures* lists { do ⌜ ((← (⟦Coverage::MIN_EXONS⟧).entry) ≡ min_exons) × ((← (⟦Coverage::MAX_EXONS⟧).entry) ≡ max_exons) ⌝ }
+        ensures counts { (Coverage.MAX_BASES ≡ max_bases) × (Coverage.MIN_LENGTH ≡ min_length) × (Coverage.MAX_LENGTH ≡ max_length) }
+        ensures lists { (Coverage.MIN_EXONS ≡ min_exons) × (Coverage.MAX_EXONS ≡ max_exons) }
     {
         Coverage {
             depth: (bases as f64) / (length as f64),

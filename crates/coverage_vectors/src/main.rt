@@ -1,6 +1,8 @@
 // Runs stored base counts through the demand maker. Standard input holds records: how many bases, lengths and lent entries there are, four
 // bytes each, high byte first, then the bases and the lengths, four bytes each. For each the program prints number, place, how many demands
 // were written, and every entry of the lent list, which held 77 in each.
+#![tactic(auto)]
+
 ghost use Rattle.io.specs.Counts.{IsPrefixLen};
 
 use records::Next;

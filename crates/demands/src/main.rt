@@ -1,5 +1,7 @@
 // Prints the demands of exons from their base counts, one to a line, or one line `refused`, number and place. Standard input holds for each
 // exon the bases aligned and its length, four bytes each, high byte first.
+#![tactic(auto)]
+
 ghost use Rattle.std.specs.Prelude.{◌<◌, ◌≤◌, length};
 ghost use Rattle.io.specs.Counts.{IsPrefixLen};
 

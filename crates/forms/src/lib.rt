@@ -1,5 +1,7 @@
 // The two forms of document 01: their types with the limits, numbers in bytes, one function for each field and place, finding an arc, marks. What reads or checks a form stands above.
 // The definitions that the contracts cite are in specs/, in document 01's words and order.
+#![tactic(auto)]
+
 pub mod arcs;
 pub mod bytes;
 pub mod fields;
@@ -121,10 +123,10 @@ impl Graph {
     // The graph with nothing in it. The numbers that are the same in every version are the definitions' own.
     pub fn empty() -> Graph
         ensures value { result ≡ empty_graph }
-        ensures* numbers { do ⌜ ((← (⟦Graph::MAX_OPENING⟧).entry) ≡ max_opening) × ((← (⟦Graph::MAX_COST⟧).entry) ≡ max_cost) × ((← (⟦Graph::MAX_DEMAND⟧).entry) ≡ max_demand) × ((← (⟦Graph::MIN_READ⟧).entry) ≡ min_read_length) ⌝ }
-        ensures* rooms { do ⌜ ((← (⟦Graph::ROOM_VERTICES⟧).entry) ≡ room_vertices) × ((← (⟦Graph::ROOM_ARCS⟧).entry) ≡ room_arcs) × ((← (⟦Graph::ROOM_READS⟧).entry) ≡ room_reads) ⌝ }
-        ensures* places { do ⌜ ((← (⟦Graph::AT_VERSION⟧).entry) ≡ version_at) × ((← (⟦Graph::AT_VERTICES⟧).entry) ≡ vertex_count_at) × ((← (⟦Graph::ARC⟧).entry) ≡ arc_length) × ((← (⟦Graph::NEWEST⟧).entry) ≡ newest) ⌝ }
-        ensures* longest { do n ← (⟦Graph::LONGEST⟧).entry; ⌜ ((s : List ℕ) → n ≡ longest_graph s) ⌝ }
+        ensures numbers { (Graph.MAX_OPENING ≡ max_opening) × (Graph.MAX_COST ≡ max_cost) × (Graph.MAX_DEMAND ≡ max_demand) × (Graph.MIN_READ ≡ min_read_length) }
+        ensures rooms { (Graph.ROOM_VERTICES ≡ room_vertices) × (Graph.ROOM_ARCS ≡ room_arcs) × (Graph.ROOM_READS ≡ room_reads) }
+        ensures places { (Graph.AT_VERSION ≡ version_at) × (Graph.AT_VERTICES ≡ vertex_count_at) × (Graph.ARC ≡ arc_length) × (Graph.NEWEST ≡ newest) }
+        ensures longest { (s : List ℕ) → Graph.LONGEST ≡ longest_graph s }
     {
         let header = Header::empty();
         let first = [0; Graph::ROOM_VERTICES + 1];
@@ -177,8 +179,8 @@ impl Answer {
     // The answer with nothing in it. The numbers that are the same in every version are the definitions' own.
     pub fn empty() -> Answer
         ensures value { result ≡ empty_answer }
-        ensures* numbers { do ⌜ ((← (⟦Answer::MARK_LIMIT⟧).entry) ≡ mark_limit) × ((← (⟦Answer::ROOM_PATHS⟧).entry) ≡ room_paths) ⌝ }
-        ensures* places { do ⌜ ((← (⟦Answer::AT_VERSION⟧).entry) ≡ answer_version_at) × ((← (⟦Answer::AT_PATHS⟧).entry) ≡ path_count_at) × ((← (⟦Answer::AT_PRICE⟧).entry) ≡ price_at) × ((← (⟦Answer::MARK_PART⟧).entry) ≡ mark_part_length) ⌝ }
+        ensures numbers { (Answer.MARK_LIMIT ≡ mark_limit) × (Answer.ROOM_PATHS ≡ room_paths) }
+        ensures places { (Answer.AT_VERSION ≡ answer_version_at) × (Answer.AT_PATHS ≡ path_count_at) × (Answer.AT_PRICE ≡ price_at) × (Answer.MARK_PART ≡ mark_part_length) }
     {
         Answer { paths: 0, price: 0 }
     }

@@ -1,4 +1,6 @@
 // The listing that the programs print, as bytes. The definitions that the contracts cite are in specs/, in document 01's words.
+#![tactic(auto)]
+
 mod lines;
 
 ghost use Rattle.std.specs.Prelude.{◌≡◌, ◌≤◌, length};

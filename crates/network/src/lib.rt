@@ -1,6 +1,7 @@
 // The flow of lowest cost: what has to move is carried from nodes with a surplus to nodes with a deficit. A guess is tested (`stands`), and where it fails the
 // test, everything is carried along cheapest ways, one after the other. It knows nothing of graphs and reads. Another search may take its place: those
 // above see `chain`, `carry_all` and their contracts.
+#![tactic(auto)]
 
 // The test of a guess.
 pub mod stands;

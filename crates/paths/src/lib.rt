@@ -1,4 +1,5 @@
 // Taking weighted paths off the loads: walks from the root back to the root along loaded edges, each with the least load on it.
+#![tactic(auto)]
 
 // The paths that are taken off, merged in order.
 mod collect;

@@ -3,6 +3,7 @@
 //
 // So there is no invariant on the tree. Every number of a node or an edge that is read from an array is cut to the range, every walk counts its
 // steps, and marks and flows wrap.
+#![tactic(auto)]
 
 // Numbers cut to their range.
 mod cut;

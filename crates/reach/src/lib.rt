@@ -1,4 +1,6 @@
 // Which vertices a start leads to and which lead on to an end, and the first item that asks for something and lies on no path.
+#![tactic(auto)]
+
 ghost use Rattle.std.specs.Prelude.{◌≡◌, ◌+◌, ◌<◌, false, ◌&&◌, length, get_or};
 ghost use Rattle.mathematics.specs.Graph.{is_start, is_end};
 ghost use Rattle.mathematics.specs.Reach.{from_start, to_end, read_lies};

@@ -1,5 +1,7 @@
 // Runs stored graph forms through the reader. Standard input holds records, each a length of four bytes, high byte first, and
 // that many bytes of a form; for each the program prints the number and the place that the reader answers.
+#![tactic(auto)]
+
 use records::Next;
 
 // Runs the form that comes next, and answers whether it was there.

@@ -1,4 +1,6 @@
 // Lists the answer form in `cover.bin` for the graph form in `graph.bin`. Each file is read once, and what is listed comes from the bytes held.
+#![tactic(auto)]
+
 ghost use Rattle.io.specs.Counts.{IsPrefixLen};
 ghost use Rattle.text.specs.Text.{Writes};
 ghost use Rattle.listing.specs.Listing.{inputs_listing};

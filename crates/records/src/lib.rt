@@ -1,5 +1,7 @@
 // What the programs over stored vectors share: they read numbers and byte strings from standard input, and print numbers. No contract
 // can say what is read, so none says more than what a caller needs to go on.
+#![tactic(auto)]
+
 ghost use Rattle.std.specs.Prelude.{◌<◌};
 ghost use Rattle.io.specs.Counts.{IsPrefixLen};
 

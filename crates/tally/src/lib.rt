@@ -1,5 +1,7 @@
 // What one path of an answer adds to the tallies: its weight to the totals of the vertices and arcs on it, and the reads that it holds. The reader of an answer calls it
 // path by path.
+#![tactic(auto)]
+
 ghost use Rattle.std.specs.Prelude.{◌≡◌, ◌+◌, ◌*◌, ◌<◌, ◌≤◌, ◌∷◌, ◌||◌, length};
 ghost use Rattle.mathematics.specs.Lists.{holds, Rising};
 ghost use Rattle.forms.specs.ArcTable.{ArcTable};

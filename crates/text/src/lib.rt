@@ -1,4 +1,6 @@
 // Words and numbers as text, in a lent buffer: stored from an index on, and measured before anything is stored. It knows no form and no listing.
+#![tactic(auto)]
+
 ghost use Rattle.std.specs.Prelude.{◌≡◌, ◌≤◌, length};
 ghost use Rattle.text.specs.Text.{decimal, TextFits, Puts};
 

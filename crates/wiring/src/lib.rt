@@ -1,4 +1,6 @@
 // The working network of a graph form: edges with their ends and costs, first loads, live nodes, and each node's surplus or deficit.
+#![tactic(auto)]
+
 ghost use Rattle.std.specs.Prelude.{◌≡◌, ◌&&◌, cond, ltb, ◌+◌, ◌*◌, ◌-◌, ◌<◌, ◌≤◌, length};
 ghost use Rattle.mathematics.specs.Reach.{useful};
 ghost use Rattle.forms.specs.GraphForm.{vertex_count, arc_count};

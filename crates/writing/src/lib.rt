@@ -1,4 +1,6 @@
 // Writing the answer form of a graph: numbers, marks, path records, and the whole form at the front of the output. What a version fixes comes from the forms.
+#![tactic(auto)]
+
 ghost use Rattle.std.specs.Prelude.{◌≡◌, ◌+◌, ◌*◌, ◌<◌, ◌≤◌, length, get_or, take, []};
 ghost use Rattle.std.proofs.Math.IntN.{sub_ℕ};
 ghost use Rattle.forms.specs.Layout.{count_bytes, max_path_length, longest_answer};
