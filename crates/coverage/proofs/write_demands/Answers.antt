@@ -1,0 +1,24 @@
+-- `coverage::write_demands` meets its contract: the demands passed are the quotients. Assumes nothing.
+use Rattle.std.proofs.Common.{◌-◌, refl, arith, rules}
+use Rattle.coverage.proofs.WholePart.{recorded}
+use Rattle.coverage.proofs.DemandLaws.{right_exon, demand_counts, demand_more, demands_whole}
+use Rattle.coverage.proofs.write_demands.Goals as goal
+
+pub loop-exon-init : goal.loop-exon-init
+loop-exon-init c = (search rules, search rules, search rules, refl)
+
+pub demand_of-requires : goal.demand_of-requires
+demand_of-requires c =
+    let right = right_exon _ _ c.loop-exon.exon (c.loop-exon.invariant.2 _ (search rules)) in
+    recorded _ _ _ c.new.ensures.value (omega (arith, c.shared_slice_known-in-loop-exon-1.given c.loop-exon.exon)) right.0 right.1
+
+pub loop-exon-preserved : goal.loop-exon-preserved
+loop-exon-preserved c =
+    let at = c.loop-exon in
+    let inv = at.invariant in
+    (search rules, search rules, search rules, demand_more _ _ at.demands at.exon _ inv.0 inv.1 (search rules) inv.3 (demand_counts _ _ _ _ c.new.ensures.value c.demand_of.ensures))
+
+pub returns : goal.returns
+returns c =
+    let inv = c.loop-exon.invariant in
+    demands_whole _ _ _ c.loop-exon.exon inv.0 inv.1 (search rules) inv.3

@@ -1,0 +1,19 @@
+-- `reach::mark_ends` meets its contract.
+use borrow.Author.Rules.{rules}
+use Prim.Native.Nat.{◌-◌}
+use native.Mathlib.Omega.{arith}
+use Rattle.mathematics.specs.Graph.{is_end}
+use Rattle.forms.proofs.Filling.{fill_none, fill_more}
+use Rattle.reach.proofs.mark_ends.Goals as goal
+
+pub loop-v-init : goal.loop-v-init
+loop-v-init c = (search rules, search rules, fill_none (search rules))
+
+pub is_end-requires : goal.is_end-requires
+is_end-requires c = (search rules, omega (arith, c.requires.0.arcs.header.vertices_room))
+
+pub loop-v-preserved : goal.loop-v-preserved
+loop-v-preserved c = (search rules, search rules, fill_more c.loop-v.invariant.2 (search rules) c.is_end.ensures)
+
+pub returns : goal.returns
+returns c = record { long = c.loop-v.invariant.2.long; says = λ v l. c.loop-v.invariant.2.each v (omega arith) }
