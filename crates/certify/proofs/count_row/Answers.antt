@@ -31,7 +31,7 @@ overflow_add-vertex_reads-in-loop-k c =
     let low = c.requires.2 in
     let first = row_number _ _ _ 0 _ r (omega (arith, r.long, r.read.some)) c.wide-u.ensures.0 in
     let next = row_number _ _ _ c.loop-k.k _ r (search rules) c.wide-v.ensures.0 in
-    omega (arith, vertex_room c.args.vertex-reads.now c.loop-k.invariant.1 c.wide-v.result next.1 (omega (arith, r.long, r.fit)) (omega (arith, first.1, low.vertices_long)) (low.vertices c.wide-v.result next.1))
+    omega (arith, vertex_room c.args.vertex_reads.now c.loop-k.invariant.1 c.wide-v.result next.1 (omega (arith, r.long, r.fit)) (omega (arith, first.1, low.vertices_long)) (low.vertices c.wide-v.result next.1))
 
 pub bounds-vertex_reads-v-in-loop-k : goal.bounds-vertex_reads-v-in-loop-k
 bounds-vertex_reads-v-in-loop-k c = (row_number _ _ _ c.loop-k.k _ c.requires.1 (search rules) c.wide-v.ensures.0).1

@@ -7,7 +7,7 @@ use Rattle.reads.specs.ReadTable.{row_at}
 use Rattle.certify.proofs.count_row.Given as goal
 
 abbrev pub invariant-loop-k : goal.invariant-loop-k
-invariant-loop-k l = (l.n ≡ length (row_at l.rows l.lens l.i)) × CountLeft l.s (row_at l.rows l.lens l.i) «vertex-reads₀» «vertex-reads» «arc-reads₀» «arc-reads» l.initial.u l.u l.k
+invariant-loop-k l = (l.n ≡ length (row_at l.rows l.lens l.i)) × CountLeft l.s (row_at l.rows l.lens l.i) l.initial.vertex_reads l.vertex_reads l.initial.arc_reads l.arc_reads l.initial.u l.u l.k
 
 abbrev pub decreases-loop-k : goal.decreases-loop-k
 decreases-loop-k l = l.n - l.k
