@@ -1,6 +1,6 @@
 -- One pass over the arcs finds what is reached: arcs are sorted by tail and rise, so a vertex is settled before the arcs that lead on from it come. Said
 -- once for both passes: from the starts along the arcs, and from the ends back against them.
-use Prim.Native.Nat.{ℕ, ◌+◌, ◌-◌, ◌<◌, ◌≤◌}
+use Prim.Native.Nat.{ℕ, ◌+◌, ◌<◌, ◌≤◌}
 use native.Mathlib.Decide.{ℕ_discrete, dec_lt}
 use native.Mathlib.Omega.{arith}
 use mathlib.Core.Path.{◌≡◌, refl, sym, ap, subst, ◌∙◌}

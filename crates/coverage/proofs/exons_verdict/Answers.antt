@@ -1,5 +1,5 @@
 -- `coverage::exons_verdict` meets its contract: the answer of all exons is that of those not yet passed. Assumes nothing.
-use Rattle.std.proofs.Common.{◌-◌, refl, ◌∙◌, rules}
+use Rattle.std.proofs.Common.{refl, ◌∙◌, rules}
 use Rattle.forms.proofs.Scan.{scan_begins, scan_turns, scan_stops, scan_ends}
 use Rattle.coverage.proofs.DemandLaws.{fault_of_lem}
 use Rattle.coverage.proofs.exons_verdict.Goals as goal

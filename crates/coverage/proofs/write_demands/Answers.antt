@@ -1,5 +1,5 @@
 -- `coverage::write_demands` meets its contract: the demands passed are the quotients. Assumes nothing.
-use Rattle.std.proofs.Common.{◌-◌, refl, arith, rules}
+use Rattle.std.proofs.Common.{refl, rules}
 use Rattle.coverage.proofs.WholePart.{recorded}
 use Rattle.coverage.proofs.DemandLaws.{right_exon, demand_counts, demand_more, demands_whole}
 use Rattle.coverage.proofs.write_demands.Goals as goal
@@ -10,7 +10,7 @@ loop-exon-init c = (search rules, search rules, search rules, refl)
 pub demand_of-requires : goal.demand_of-requires
 demand_of-requires c =
     let right = right_exon _ _ c.loop-exon.exon (c.loop-exon.invariant.2 _ (search rules)) in
-    recorded _ _ _ c.new.ensures.value (omega (arith, c.shared_slice_known-in-loop-exon-1.given c.loop-exon.exon)) right.0 right.1
+    recorded _ _ _ c.new.ensures.value (search rules) right.0 right.1
 
 pub loop-exon-preserved : goal.loop-exon-preserved
 loop-exon-preserved c =

@@ -1,6 +1,5 @@
 -- `reach::arcs_lie` meets its contract.
 use borrow.Author.Rules.{rules}
-use Prim.Native.Nat.{◌-◌}
 use native.Mathlib.Omega.{arith}
 use mathlib.Core.Path.{◌∙◌}
 use Rattle.forms.proofs.Scan.{scan_begins, scan_turns, scan_stops, scan_ends}

@@ -2,8 +2,6 @@
 use mathlib.Core.Path.{sym, ap}
 use mathlib.Core.Bool.{false, ◌&&◌}
 use lib.ListN.{get_or}
-use Rattle.reach.proofs.lies.Reads as reads
-use Rattle.reach.proofs.lies.Lts as lts
 use Rattle.reach.proofs.lies.Goals as goal
 
 pub returns-then-reached-u : goal.returns-then-reached-u

@@ -1,8 +1,6 @@
 -- `reach::mark_starts` meets its contract.
 use borrow.Author.Rules.{rules}
-use Prim.Native.Nat.{◌-◌}
 use native.Mathlib.Omega.{arith}
-use Rattle.mathematics.specs.Graph.{is_start}
 use Rattle.forms.proofs.Filling.{fill_none, fill_more}
 use Rattle.reach.proofs.mark_starts.Goals as goal
 

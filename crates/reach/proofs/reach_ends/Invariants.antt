@@ -1,5 +1,5 @@
 -- `reach::reach_ends` meets its contract: the arcs from a on are done.
-use Prim.Native.Nat.{◌≤◌, ◌-◌}
+use Prim.Native.Nat.{◌≤◌}
 use mathlib.Core.Path.{◌≡◌}
 use Rattle.forms.specs.GraphForm.{arc_count, first_arc_at}
 use Rattle.reach.proofs.ReachLawsPass.{Back}

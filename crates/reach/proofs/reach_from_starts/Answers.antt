@@ -1,6 +1,5 @@
 -- `reach::reach_from_starts` meets its contract: the arcs below a are done.
 use borrow.Author.Rules.{rules}
-use Prim.Native.Nat.{◌-◌}
 use native.Mathlib.Omega.{arith}
 use Rattle.reach.proofs.ReachLaws.{tail_low, head_low}
 use Rattle.reach.proofs.ReachLawsPass.{ahead_begins, ahead_over, ahead_on, ahead_ends}

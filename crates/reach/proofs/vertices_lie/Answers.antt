@@ -1,13 +1,8 @@
 -- `reach::vertices_lie` meets its contract.
 use borrow.Author.Rules.{rules}
-use Prim.Native.Nat.{◌-◌}
 use native.Mathlib.Omega.{arith}
 use mathlib.Core.Path.{refl, ◌∙◌}
 use Rattle.forms.proofs.Scan.{scan_begins, scan_turns, scan_stops, scan_ends}
-use Rattle.reach.proofs.vertices_lie.Reads as reads
-use Rattle.reach.proofs.vertices_lie.Lts as lts
-use Rattle.reach.proofs.vertex_lacks.Reads as vertex-lacks-reads
-use Rattle.forms.proofs.Verdict.new.Reads as new-reads
 use Rattle.reach.proofs.vertices_lie.Goals as goal
 
 pub loop-v-init : goal.loop-v-init

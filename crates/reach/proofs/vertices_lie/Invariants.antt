@@ -4,14 +4,10 @@ use mathlib.Core.Path.{◌≡◌}
 use Rattle.forms.specs.GraphOf.{graph_of}
 use Rattle.forms.specs.GraphFaults.{first_fault}
 use Rattle.reach.specs.Reached.{vertex_ask, lacks}
-use Rattle.reach.proofs.vertices_lie.Reads as reads
-use Rattle.reach.proofs.vertices_lie.Lts as lts
-use Rattle.reach.proofs.vertex_lacks.Reads as vertex-lacks-reads
-use Rattle.forms.proofs.Verdict.new.Reads as new-reads
 use Rattle.reach.proofs.vertices_lie.Given as goal
 
 abbrev pub invariant-loop-v : goal.invariant-loop-v
-invariant-loop-v l = (l.v ≤ l.n) × (first_fault (λ l.v. lacks (graph_of l.s) (vertex_ask l.s l.v)) (λ l.v. l.v) l.n 0 ≡ first_fault (λ l.v. lacks (graph_of l.s) (vertex_ask l.s l.v)) (λ l.v. l.v) (l.n - l.v) l.v)
+invariant-loop-v l = (l.v ≤ l.n) × (first_fault (λ v. lacks (graph_of l.s) (vertex_ask l.s v)) (λ v. v) l.n 0 ≡ first_fault (λ v. lacks (graph_of l.s) (vertex_ask l.s v)) (λ v. v) (l.n - l.v) l.v)
 
 abbrev pub decreases-loop-v : goal.decreases-loop-v
 decreases-loop-v l = l.n - l.v
