@@ -25,7 +25,7 @@ pub path_length-lp-requires : goal.path_length-lp-requires
 path_length-lp-requires c = omega (arith, (c.read_path-path.ensures.tallied c.if-fault-ne0.false).head)
 
 pub path_vertices_at-p-requires : goal.path_vertices_at-p-requires
-path_vertices_at-p-requires c = omega (arith, head_within (c.read_path-path.ensures.tallied c.if-fault-ne0.false).head, c.well-formed.1.1.1.0.0)
+path_vertices_at-p-requires c = omega (arith, head_within (c.read_path-path.ensures.tallied c.if-fault-ne0.false).head)
 
 pub overflow_add-price : goal.overflow_add-price
 overflow_add-price c = omega (arith, (c.read_path-path.ensures.tallied c.if-fault-ne0.false).low_cost, c.loop-left.invariant.1, c.requires.reads.0.arcs.header.low_opening)
@@ -40,7 +40,7 @@ pub overflow_add-copies : goal.overflow_add-copies
 overflow_add-copies c = omega (arith, head_low (c.read_path-path.ensures.tallied c.if-fault-ne0.false).head, c.path_weight-weight.ensures.value)
 
 pub overflow_add-at : goal.overflow_add-at
-overflow_add-at c = omega (arith, (c.read_path-path.ensures.tallied c.if-fault-ne0.false).head, c.path_length-lp.ensures.value, c.path_vertices_at-p.ensures, c.well-formed.1.1.1.0.0)
+overflow_add-at c = omega (arith, (c.read_path-path.ensures.tallied c.if-fault-ne0.false).head, c.path_length-lp.ensures.value, c.path_vertices_at-p.ensures)
 
 pub loop-left-preserved : goal.loop-left-preserved
 loop-left-preserved c = (paths_turn c.loop-left.invariant.0 c.loop-left-test.true (c.read_path-path.ensures.tallied c.if-fault-ne0.false) (sym c.read_path-path.ensures.is_fault ∙ c.if-fault-ne0.false) c.path_weight-weight.ensures.value c.path_length-lp.ensures.value c.path_vertices_at-p.ensures c.loop-left.invariant.1 c.requires.reads.0.arcs.header.low_opening, c.loop-left.invariant.1)

@@ -7,8 +7,8 @@ use Rattle.checker.proofs.check.hand_out.Goals as goal
 pub overflow_add-end : goal.overflow_add-end
 overflow_add-end c = omega (arith, found_within c.find_path-found.ensures)
 
-{- GONE part-result-end : tie.Need-slice-bounds-result-end
-part-result-end c = omega (arith, found_within c.before.find-path.ensures) -}
+pub slice_bounds-result-end : goal.slice_bounds-result-end
+slice_bounds-result-end c = omega (arith, found_within c.find_path-found.ensures)
 
 pub returns : goal.returns
 returns c =

@@ -1,5 +1,4 @@
 -- `checker::reader::goes_on` meets its contract: an arc is found exactly where there is one.
-use mathlib.Core.Path.{sym, ◌∙◌}
 use Rattle.forms.proofs.WalkLaws.{goes_outside, goes_arc, goes_nowhere}
 use borrow.Author.Rules.{rules}
 use Rattle.checker.proofs.reader.goes_on.Goals as goal
@@ -8,7 +7,7 @@ pub returns-then-n-v : goal.returns-then-n-v
 returns-then-n-v c = goes_outside _ _ _ _ (search rules)
 
 pub returns-in-At : goal.returns-in-At
-returns-in-At c = goes_arc _ _ _ _ _ (search rules) (sym c.enum_told-1.given.1 ∙ c.find_arc.ensures)
+returns-in-At c = goes_arc _ _ _ _ _ (search rules) c.in-At.ensures
 
 pub returns-in-Missing : goal.returns-in-Missing
-returns-in-Missing c = goes_nowhere _ _ _ _ (search rules) (sym c.enum_told-in-Missing-1.given.1 ∙ c.find_arc.ensures)
+returns-in-Missing c = goes_nowhere _ _ _ _ (search rules) c.in-Missing.ensures
