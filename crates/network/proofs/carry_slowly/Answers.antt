@@ -1,6 +1,5 @@
 -- `network::carry_slowly` meets its contract. The loop's invariant: the state between rounds, what changed since the start, and that the first u
 -- nodes have no surplus. When no node has one, no node has a deficit either, for the sums are the same. Assumes nothing.
-use Prim.Native.Nat.{◌-◌}
 use native.Mathlib.Omega.{arith}
 use Rattle.network.proofs.NetworkLawsCarry.{carries_none, carries_more, gone_none, gone_more, waiting_carries, all_carried}
 use Rattle.network.proofs.carry_slowly.Goals as goal

@@ -1,5 +1,4 @@
 -- `network::clear` meets its contract. The loop's invariant: the first u are cleared, and all nodes are still there. Assumes nothing.
-use Prim.Native.Nat.{◌-◌}
 use native.Mathlib.Omega.{arith}
 use borrow.Author.Rules.{rules}
 use Rattle.network.proofs.NetworkLaws.{cleared_more}

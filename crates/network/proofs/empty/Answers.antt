@@ -1,5 +1,4 @@
 -- `network::empty` meets its contract. The loop's invariant: the first e are 0. Assumes nothing.
-use Prim.Native.Nat.{◌-◌}
 use native.Mathlib.Omega.{arith}
 use Rattle.network.proofs.NetworkLawsStand.{emptied_none, emptied_more}
 use borrow.Author.Rules.{rules}

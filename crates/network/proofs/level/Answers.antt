@@ -1,5 +1,4 @@
 -- `network::level` meets its contract. The loop's invariant: the first u are the base. Assumes nothing.
-use Prim.Native.Nat.{◌-◌}
 use native.Mathlib.Omega.{arith}
 use Rattle.network.proofs.NetworkLawsStand.{levelled_none, levelled_more}
 use borrow.Author.Rules.{rules}

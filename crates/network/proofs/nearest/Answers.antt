@@ -1,9 +1,8 @@
 -- `network::nearest` meets its contract. The loop's invariant: the best of the first v nodes. Assumes nothing.
-use Prim.Native.Nat.{◌-◌}
-use mathlib.Core.Logic.{⊎_elim}
 use native.Mathlib.Omega.{arith}
 use Rattle.network.proofs.NetworkLawsSearch.{scan_none, scan_taken, scan_passed, scan_all}
 use Rattle.network.proofs.nearest.Goals as goal
+use Rattle.network.proofs.nearest.Goals.{then-rank-v+then-dist-v, then-rank-v+else-dist-v, else-rank-v}
 
 pub loop-v-init : goal.loop-v-init
 loop-v-init c = (omega arith, scan_none _ _ _)
@@ -36,12 +35,11 @@ pub loop-v-preserved : goal.loop-v-preserved
 loop-v-preserved c =
     let S = c.loop-v.invariant.1 in (
       omega arith,
-      ⊎_elim
-          (λ w. scan_taken _ _ _ _ _ _ _ _ S (omega arith) w.0.taken w.2.taken w.4 w.5)
-          (⊎_elim
-          (λ w. scan_passed _ _ _ _ _ _ _ _ S (λ _. w.2.left) w.3 w.4)
-          (λ w. scan_passed _ _ _ _ _ _ _ _ S (λ l. let h = w.0.left in absurd (omega arith)) w.1 w.2))
-          c.if-rank-v.branch,
+      elim c.if-rank-v.branch [
+        | then-rank-v+then-dist-v w ↦ scan_taken _ _ _ _ _ _ _ _ S (omega arith) w.if-rank-v.true w.if-dist-v.true w.best-is w.least-is
+        | then-rank-v+else-dist-v w ↦ scan_passed _ _ _ _ _ _ _ _ S (λ _. w.if-dist-v.false) w.best-is w.least-is
+        | else-rank-v w ↦ scan_passed _ _ _ _ _ _ _ _ S (λ l. let h = w.if-rank-v.false in absurd (omega arith)) w.best-is w.least-is
+      ],
     )
 
 pub returns : goal.returns

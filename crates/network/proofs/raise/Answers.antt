@@ -1,11 +1,10 @@
 -- `network::raise` meets its contract. The loop's invariant: the first u nodes are raised, the others are as they were. Assumes nothing.
-use Prim.Native.Nat.{◌+◌, ◌≤◌, ◌-◌, min}
-use mathlib.Core.Logic.{⊎_elim}
+use Prim.Native.Nat.{◌+◌, ◌≤◌, min}
 use native.Mathlib.Omega.{arith}
 use Rattle.network.specs.Network.{nth, farthest, highest}
 use Rattle.network.proofs.NetworkLawsRaise.{raise_none, raise_all, raise_fits, raise_one, raise_skip, is_live, is_dead}
 use Rattle.network.proofs.raise.Goals as goal
-use Rattle.network.proofs.raise.Goals.{Then-live-u}
+use Rattle.network.proofs.raise.Goals.{Then-live-u, then-live-u, else-live-u}
 
 pub bounds-dist-0 : goal.bounds-dist-0
 bounds-dist-0 c = omega arith
@@ -61,10 +60,10 @@ loop-u-preserved c =
     let p = c.requires in (
       l.invariant.0,
       omega arith,
-      ⊎_elim
-          (λ w. raise_one _ _ _ _ _ p _ _ l.invariant.2 c.loop-u-test.true (is_live _ w.0.taken) _ _ _ w.2.ensures l.invariant.0 w.4)
-          (λ w. raise_skip _ _ _ _ _ p _ _ l.invariant.2 c.loop-u-test.true (is_dead _ w.0.left) _ w.1)
-          c.if-live-u.branch,
+      elim c.if-live-u.branch [
+        | then-live-u w ↦ raise_one _ _ _ _ _ p _ _ l.invariant.2 c.loop-u-test.true (is_live _ w.if-live-u.true) _ _ _ w.lesser-more.ensures l.invariant.0 w.mark-is
+        | else-live-u w ↦ raise_skip _ _ _ _ _ p _ _ l.invariant.2 c.loop-u-test.true (is_dead _ w.if-live-u.false) _ w.mark-is
+      ],
     )
 
 pub returns : goal.returns

@@ -2,12 +2,11 @@
 -- Assumes nothing.
 use Prim.Native.Nat.{◌<◌, ◌-◌}
 use mathlib.Core.Path.{◌≡◌, refl}
-use mathlib.Core.Logic.{⊎_elim}
 use native.Mathlib.Omega.{arith}
 use Rattle.network.specs.Network.{nth, most_nodes, most_edges}
 use Rattle.network.proofs.NetworkLawsSearch.{back_first, back_safe, back_again, back_skipped}
 use Rattle.network.proofs.relax_back.Goals as goal
-use Rattle.network.proofs.relax_back.Goals.{In-loop-h}
+use Rattle.network.proofs.relax_back.Goals.{In-loop-h, then-load-e-gt0, else-load-e-gt0}
 
 pub offset_bounds-dist-u : goal.offset_bounds-dist-u
 offset_bounds-dist-u c = omega arith
@@ -70,10 +69,10 @@ loop-h-smaller c = (safe ((goal.at.loop-h-smaller c).In-loop-h)).2
 pub loop-h-preserved : goal.loop-h-preserved
 loop-h-preserved c =
     let p = c.requires in
-    ⊎_elim
-    (λ w. back_again _ _ _ _ _ _ _ _ _ _ _ _ _ _ _ _ p.lanes p.chained _ c.loop-h.invariant c.loop-h-test.true w.0.taken _ _ _ _ w.4.ensures w.5 w.6)
-    (λ w. back_skipped _ _ _ _ _ _ _ _ _ _ _ _ _ _ _ _ p.lanes p.chained _ c.loop-h.invariant c.loop-h-test.true w.0.left _ _ w.1 w.2)
-    c.if-load-e-gt0.branch
+    elim c.if-load-e-gt0.branch [
+      | then-load-e-gt0 w ↦ back_again _ _ _ _ _ _ _ _ _ _ _ _ _ _ _ _ p.lanes p.chained _ c.loop-h.invariant c.loop-h-test.true w.if-load-e-gt0.true _ _ _ _ w.lower.ensures w.dist-is w.via-is
+      | else-load-e-gt0 w ↦ back_skipped _ _ _ _ _ _ _ _ _ _ _ _ _ _ _ _ p.lanes p.chained _ c.loop-h.invariant c.loop-h-test.true w.if-load-e-gt0.false _ _ w.dist-is w.via-is
+    ]
 
 pub returns : goal.returns
 returns c =

@@ -1,6 +1,5 @@
 -- `network::relax_back` meets its contract. The loop's invariant: the edges into u with a number of h or more are looked at; the measure is h.
 -- Assumes nothing.
-use Prim.Native.Nat.{◌-◌}
 use Rattle.network.proofs.NetworkLawsSearch.{BackWalk}
 use Rattle.network.proofs.relax_back.Given as goal
 

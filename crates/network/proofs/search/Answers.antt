@@ -1,6 +1,6 @@
 -- `network::search` meets its contract. The loop's invariant: u is settled last, and no node settled before it has a deficit; the measure is how
 -- many are not settled. That a node is always found: what is reached is closed under edges. Assumes nothing.
-use Prim.Native.Nat.{◌≤◌, ◌<◌, ◌-◌}
+use Prim.Native.Nat.{◌≤◌, ◌<◌}
 use native.Mathlib.Omega.{arith}
 use Rattle.network.specs.Network.{most_nodes}
 use Rattle.network.proofs.NetworkLawsSettle.{search_first, search_node, search_room, search_again, found}

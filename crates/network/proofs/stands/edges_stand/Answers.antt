@@ -1,7 +1,5 @@
 -- `network::stands::edges_stand` meets its contract. The loop's invariant: the first e edges stand. Assumes nothing.
-use Prim.Native.Nat.{◌-◌}
 use native.Mathlib.Omega.{arith}
-use borrow.Author.Tests.{not-false}
 use Rattle.network.proofs.NetworkLawsStand.{never, edges_none, edges_more}
 use borrow.Author.Rules.{rules}
 use Rattle.network.proofs.stands.edges_stand.Goals as goal
@@ -25,7 +23,7 @@ pub returns-then-not-edge_stands : goal.returns-then-not-edge_stands
 returns-then-not-edge_stands c = never
 
 pub loop-e-preserved : goal.loop-e-preserved
-loop-e-preserved c = (search rules, edges_more _ _ _ _ _ _ c.loop-e.invariant.1 (c.edge_stands.ensures (not-false _ c.if-not-edge_stands.false)))
+loop-e-preserved c = (search rules, edges_more _ _ _ _ _ _ c.loop-e.invariant.1 (c.edge_stands.ensures c.if-not-edge_stands.false))
 
 pub returns : goal.returns
 returns c = λ t. record { each = λ e l. c.loop-e.invariant.1.each e (omega arith) }

@@ -1,5 +1,4 @@
 -- `network::stands::nodes_stand` meets its contract. The loop's invariant: the first u nodes are even. Assumes nothing.
-use Prim.Native.Nat.{◌-◌}
 use native.Mathlib.Omega.{arith}
 use Rattle.network.proofs.NetworkLawsStand.{never, even_none, even_more}
 use borrow.Author.Rules.{rules}

@@ -1,6 +1,5 @@
 -- `network::stands::tally` meets its contract. The loop's invariant: the sums hold what the first e edges carry. Assumes nothing.
 use Rattle.network.proofs.NetworkLawsStand.{tally_into_fits, tally_out_fits, tally_more}
-use Prim.Native.Nat.{◌-◌}
 use native.Mathlib.Omega.{arith}
 use mathlib.Core.Path.{◌≡◌}
 use Rattle.network.proofs.stands.tally.Goals as goal

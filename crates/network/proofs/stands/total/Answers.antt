@@ -1,5 +1,4 @@
 -- `network::stands::total` meets its contract. The loop's invariant: the sum is that of the first u. Assumes nothing.
-use Prim.Native.Nat.{◌-◌}
 use native.Mathlib.Omega.{arith}
 use mathlib.Core.Path.{◌≡◌, ap, ◌∙◌}
 use Rattle.network.specs.Network.{nth, sum_to}
