@@ -1,6 +1,6 @@
 -- Taking walks off until nothing is left: each walk keeps what Peeling says, and once the root sends nothing no edge carries anything, so the
 -- collected paths carry all loads.
-use Prim.Native.Nat.{ℕ, zero, suc, ◌+◌, ◌*◌, ◌-◌, ◌≤◌, ◌<◌, min}
+use Prim.Native.Nat.{ℕ, zero, suc, ◌+◌, ◌*◌, ◌≤◌, ◌<◌, min}
 use native.Mathlib.Omega.{arith}
 use native.Mathlib.Nat.{add-mul, mul-one, mul-zero, zero-mul, mul-suc}
 use native.Mathlib.Numerals.{add-one}

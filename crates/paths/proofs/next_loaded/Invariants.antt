@@ -1,0 +1,9 @@
+-- `paths::next_loaded` meets its contract. Assumes nothing.
+use Rattle.paths.proofs.PeelLaws.{Looking}
+use Rattle.paths.proofs.next_loaded.Given as goal
+
+abbrev pub invariant-loop-h : goal.invariant-loop-h
+invariant-loop-h l = Looking l.edges l.from l.load l.u l.h
+
+abbrev pub decreases-loop-h : goal.decreases-loop-h
+decreases-loop-h l = l.h
