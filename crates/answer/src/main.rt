@@ -6,8 +6,14 @@ ghost use Rattle.answer.specs.Answered.{Answered};
 
 use builder::build::build;
 use checker::Answer;
-use libc::{STDERR_FILENO, STDIN_FILENO, STDOUT_FILENO};
 use listing::{LONGEST_INPUT, LONGEST_LISTING, list_refusal};
+
+// Standard input, output and error, by the numbers of their files.
+const STDIN_FILENO: i32 = 0;
+
+const STDOUT_FILENO: i32 = 1;
+
+const STDERR_FILENO: i32 = 2;
 
 // How many bytes go to standard output, and how many to standard error.
 #[derive(Drop)]

@@ -5,8 +5,12 @@ ghost use Rattle.assemble.specs.Assemble.{Assembled};
 
 use builder::build::build;
 use checker::Answer;
-use libc::{STDIN_FILENO, STDOUT_FILENO};
 use listing::{LONGEST_INPUT, LONGEST_LISTING, list_cover, list_refusal};
+
+// Standard input and output, by the numbers of their files.
+const STDIN_FILENO: i32 = 0;
+
+const STDOUT_FILENO: i32 = 1;
 
 // Writes the listing to the front of `text`, which takes every listing, and returns how many bytes it has.
 fn assemble(graph: &[u8], text: &mut [u8; LONGEST_LISTING]) -> usize

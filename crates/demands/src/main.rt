@@ -6,7 +6,9 @@ ghost use Rattle.std.specs.Prelude.{◌<◌, ◌≤◌, length};
 ghost use Rattle.io.specs.Counts.{IsPrefixLen};
 
 use forms::bytes::be32;
-use libc::STDOUT_FILENO;
+
+// Standard output, by the number of its file.
+const STDOUT_FILENO: i32 = 1;
 
 // The buffer's 4,096 bytes are 512 exons: more than the 256 that are taken, so that a longer input is refused too.
 const EXON: usize = 8;
