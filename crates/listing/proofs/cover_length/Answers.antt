@@ -20,4 +20,4 @@ pub returns : goal.returns
 returns c =
     let count = c.path_count-count in
     let price = c.stated_price-price in
-    omega (arith, listing_counted c.args.graph.now c.args.answer.now count.result price.result c.requires count.ensures.0 price.ensures)
+    omega (arith, listing_counted c.args.graph.now c.args.answer.now count.result price.result c.requires count.ensures.value price.ensures)

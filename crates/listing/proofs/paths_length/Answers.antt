@@ -27,14 +27,11 @@ path_end-behind-requires c = omega (arith, path_inside c.loop-passed-test.true c
 pub path_weight-requires : goal.path_weight-requires
 path_weight-requires c = omega (arith, path_inside c.loop-passed-test.true c.loop-passed.invariant.0)
 
+pub slice_bounds-path_line_length-end : goal.slice_bounds-path_line_length-end
+slice_bounds-path_line_length-end c = omega (arith, path_inside c.loop-passed-test.true c.loop-passed.invariant.0)
+
 pub slice_bounds-path_line_length-count : goal.slice_bounds-path_line_length-count
 slice_bounds-path_line_length-count c = omega arith
-
-{- GONE part-path-line-length-start : tie.Need-slice-bounds-path-line-length-start invariant-loop decreases-loop
-part-path-line-length-start c = omega arith -}
-
-{- GONE part-path-line-length-end : tie.Need-slice-bounds-path-line-length-end invariant-loop decreases-loop
-part-path-line-length-end c = omega (arith, path_inside c.before.before.before.loop-test.true c.before.before.before.before.loop.invariant.0) -}
 
 pub path_line_length-bytes-requires : goal.path_line_length-bytes-requires
 path_line_length-bytes-requires c = omega (arith, vertices_few c.loop-passed-test.true c.loop-passed.invariant.0 c.path_vertices_at-first.ensures c.path_end-behind.ensures)

@@ -30,14 +30,11 @@ path_end-behind-requires c = omega (arith, path_inside c.loop-k-test.true c.loop
 pub path_weight-requires : goal.path_weight-requires
 path_weight-requires c = omega (arith, path_inside c.loop-k-test.true c.loop-k.invariant.0)
 
+pub slice_bounds-put_path_line-end : goal.slice_bounds-put_path_line-end
+slice_bounds-put_path_line-end c = omega (arith, path_inside c.loop-k-test.true c.loop-k.invariant.0)
+
 pub slice_bounds-put_path_line-count : goal.slice_bounds-put_path_line-count
 slice_bounds-put_path_line-count c = omega arith
-
-{- GONE part-put-path-line-start : tie.Need-slice-bounds-put-path-line-start invariant-loop decreases-loop
-part-put-path-line-start c = omega arith -}
-
-{- GONE part-put-path-line-end : tie.Need-slice-bounds-put-path-line-end invariant-loop decreases-loop
-part-put-path-line-end c = omega (arith, path_inside c.before.before.before.before.loop-test.true c.before.before.before.before.before.loop.invariant.0) -}
 
 pub put_path_line-end-requires : goal.put_path_line-end-requires
 put_path_line-end-requires c =
@@ -60,7 +57,7 @@ loop-k-preserved c =
     let weight = c.path_weight in (
       one_passed c.loop-k-test.true c.loop-k.invariant.0 behind.ensures,
       still_next c.put_path_line-end.ensures
-          (line_next c.loop-k-test.true c.loop-k.invariant.0 _ _ weight.ensures.0
+          (line_next c.loop-k-test.true c.loop-k.invariant.0 _ _ weight.ensures.value
           (vertices_handed c.loop-k-test.true c.loop-k.invariant.0 first.ensures behind.ensures) c.loop-k.invariant.1),
     )
 

@@ -1,23 +1,24 @@
 -- `listing::lines::put_bound_line` meets its contract: word, number and newline are stored one behind the other.
 -- Assumes nothing.
-use Prim.Native.Nat.{ℕ}
 use native.Mathlib.Omega.{arith}
-use mathlib.Core.List.{List, ◌++◌}
+use mathlib.Core.List.{◌++◌}
 use Rattle.text.specs.Text.{decimal, newline}
 use Rattle.text.proofs.Storing.{Still, still_all, still_next, still_byte, still_room, still_inside, still_none}
 use Rattle.listing.specs.Lines.{bound_word, bound_line}
 use Rattle.listing.proofs.lines.put_bound_line.Goals as goal
 use Rattle.listing.proofs.lines.put_bound_line.Goals.{After-put_number-end, After-put_text-first}
 
-abbrev Left : tie.Start → List ℕ → ℕ → List ℕ → Type 0
-Left c out at rest = Still c.args.out.now c.args.at (bound_line c.args.bound) out at rest
-
-after-word : (c : After-put_text-first) → Left ALIASbegun c.put_text-first.new.out c.put_text-first.result (decimal c.args.bound ++ newline)
+after-word : (c : After-put_text-first) →
+    Still c.args.out.now c.args.at (bound_line c.args.bound)
+    c.put_text-first.new.out c.put_text-first.result (decimal c.args.bound ++ newline)
 unfolding bound_line
 after-word c = still_next c.put_text-first.ensures (still_all c.requires)
 
-after-number : (c : After-put_number-end) → Left ALIASbegun c.put_number-end.new.out c.put_number-end.result newline
-after-number c = still_next c.put_number-end.ensures (after-word (PLACE c After-put_text-first))
+after-number : (c : After-put_number-end) →
+    Still c.args.out.now c.args.at (bound_line c.args.bound)
+    c.put_number-end.new.out c.put_number-end.result newline
+unfolding bound_line
+after-number c = still_next c.put_number-end.ensures (still_next c.put_text-first.ensures (still_all c.requires))
 
 pub put_text-first-requires : goal.put_text-first-requires
 unfolding bound_line

@@ -1,28 +1,30 @@
 -- `listing::lines::put_pair_line` meets its contract: word, number, space, number and newline are stored one behind the other.
 -- Assumes nothing.
-use Prim.Native.Nat.{ℕ}
 use native.Mathlib.Omega.{arith}
-use mathlib.Core.List.{List, ◌++◌}
+use mathlib.Core.List.{◌++◌}
 use Rattle.text.specs.Text.{decimal, space, newline}
 use Rattle.text.proofs.Storing.{Still, still_all, still_next, still_byte, still_room, still_inside, still_none}
 use Rattle.listing.specs.Lines.{pair_line}
 use Rattle.listing.proofs.lines.put_pair_line.Goals as goal
 use Rattle.listing.proofs.lines.put_pair_line.Goals.{After-put_number-end, After-put_number-gap, After-put_text-first}
 
-abbrev Left : tie.Start → List ℕ → ℕ → List ℕ → Type 0
-Left c out at rest = Still c.args.out.now c.args.at (pair_line c.args.word.now c.args.a c.args.b) out at rest
-
 after-word : (c : After-put_text-first) →
-    Left ALIASbegun c.put_text-first.new.out c.put_text-first.result (decimal c.args.a ++ (space ++ (decimal c.args.b ++ newline)))
+    Still c.args.out.now c.args.at (pair_line c.args.word.now c.args.a c.args.b)
+    c.put_text-first.new.out c.put_text-first.result (decimal c.args.a ++ (space ++ (decimal c.args.b ++ newline)))
 unfolding pair_line
 after-word c = still_next c.put_text-first.ensures (still_all c.requires)
 
 after-a : (c : After-put_number-gap) →
-    Left ALIASbegun c.put_number-gap.new.out c.put_number-gap.result (space ++ (decimal c.args.b ++ newline))
-after-a c = still_next c.put_number-gap.ensures (after-word (PLACE c After-put_text-first))
+    Still c.args.out.now c.args.at (pair_line c.args.word.now c.args.a c.args.b)
+    c.put_number-gap.new.out c.put_number-gap.result (space ++ (decimal c.args.b ++ newline))
+unfolding pair_line
+after-a c = still_next c.put_number-gap.ensures (still_next c.put_text-first.ensures (still_all c.requires))
 
-after-b : (c : After-put_number-end) → Left ALIASbegun c.put_number-end.new.out c.put_number-end.result newline
-after-b c = still_next c.put_number-end.ensures (still_byte (after-a (PLACE c After-put_number-gap)))
+after-b : (c : After-put_number-end) →
+    Still c.args.out.now c.args.at (pair_line c.args.word.now c.args.a c.args.b)
+    c.put_number-end.new.out c.put_number-end.result newline
+unfolding pair_line
+after-b c = still_next c.put_number-end.ensures (still_byte (still_next c.put_number-gap.ensures (still_next c.put_text-first.ensures (still_all c.requires))))
 
 pub put_text-first-requires : goal.put_text-first-requires
 unfolding pair_line

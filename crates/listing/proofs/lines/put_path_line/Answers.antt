@@ -1,24 +1,24 @@
 -- `listing::lines::put_path_line` meets its contract: weight, vertices and newline are stored one behind the other.
 -- Assumes nothing.
-use Prim.Native.Nat.{ℕ}
 use native.Mathlib.Omega.{arith}
-use mathlib.Core.List.{List, ◌++◌}
+use mathlib.Core.List.{◌++◌}
 use Rattle.text.specs.Text.{decimal, newline}
 use Rattle.text.proofs.Storing.{Still, still_all, still_next, still_byte, still_room, still_inside, still_none}
 use Rattle.listing.specs.Lines.{vertex_texts, path_line}
 use Rattle.listing.proofs.lines.put_path_line.Goals as goal
 use Rattle.listing.proofs.lines.put_path_line.Goals.{After-put_number-first, After-put_vertices-end}
 
-abbrev Left : tie.Start → List ℕ → ℕ → List ℕ → Type 0
-Left c out at rest = Still c.args.out.now c.args.at (path_line c.args.weight c.args.vertices.now) out at rest
-
 after-weight : (c : After-put_number-first) →
-    Left ALIASbegun c.put_number-first.new.out c.put_number-first.result (vertex_texts c.args.vertices.now ++ newline)
+    Still c.args.out.now c.args.at (path_line c.args.weight c.args.vertices.now)
+    c.put_number-first.new.out c.put_number-first.result (vertex_texts c.args.vertices.now ++ newline)
 unfolding path_line
 after-weight c = still_next c.put_number-first.ensures (still_all c.requires)
 
-after-vertices : (c : After-put_vertices-end) → Left ALIASbegun c.put_vertices-end.new.out c.put_vertices-end.result newline
-after-vertices c = still_next c.put_vertices-end.ensures (after-weight (PLACE c After-put_number-first))
+after-vertices : (c : After-put_vertices-end) →
+    Still c.args.out.now c.args.at (path_line c.args.weight c.args.vertices.now)
+    c.put_vertices-end.new.out c.put_vertices-end.result newline
+unfolding path_line
+after-vertices c = still_next c.put_vertices-end.ensures (still_next c.put_number-first.ensures (still_all c.requires))
 
 pub put_number-first-requires : goal.put_number-first-requires
 unfolding path_line
