@@ -98,7 +98,7 @@ module _ (plain more : ℕ) (from to load first added full : List ℕ) (A : Adde
         arith,
         SlotLaws.sum_split plain more (λ e. share u (nth key e) (nth full e)),
         SlotLaws.sum_split plain more (λ e. share u (nth key e) (nth first e)),
-        sum_shares plain u (nth key) (nth first) (nth added) (nth full) A.Full-is,
+        sum_shares plain u (nth key) (nth first) (nth added) (nth full) A.full_is,
         sum_same more (λ k. share u (nth key (plain + k)) (nth full (plain + k))) (λ k. share u (nth key (plain + k)) (nth first (plain + k)))
             (λ k l. ap (share u (nth key (plain + k))) (A.kept (plain + k) (omega arith))),
       )
@@ -169,7 +169,7 @@ module _ (s : List ℕ) (right : Reads s) (from to cost first load mark added fu
             let l : 1 ≤ nth load e = omega (arith, (added_there e h k).1) in
             subst₂ (λ x y. nth mark y ≡ edge_cost s e + nth mark x) q.0 q.1
             (subst (λ k. nth mark (nth to e) ≡ k + nth mark (nth from e)) (E.cost_is e (plain_below e h)) (C.loads_tight e h l));
-        plain = λ e h. A.Full-is e h ∙ ap (λ k. k + nth added e) (F.is e (plain_below e h));
+        plain = λ e h. A.full_is e h ∙ ap (λ k. k + nth added e) (F.is e (plain_below e h));
         reads = λ r h.
             A.kept (reading_slot s r) (omega arith) ∙
             (F.is (reading_slot s r) (omega arith) ∙ SlotLaws.first_reading s r);
@@ -192,7 +192,7 @@ module _ (s : List ℕ) (right : Reads s) (from to cost first load mark added fu
         where
           pick : (0 < nth added e) ⊎ (nth added e ≤ 0) → T (in_use s (link_at s e))
           pick (inl a) = added_used e l a
-          pick (inr z) = first-used e h (omega (arith, A.Full-is e l, F.is e h))
+          pick (inr z) = first-used e h (omega (arith, A.full_is e l, F.is e h))
       used e h k (inr g) = first-used e h (omega (arith, A.kept e g, F.is e h))
 
   -- what is added to an opening leaves the root
@@ -207,7 +207,7 @@ module _ (s : List ℕ) (right : Reads s) (from to cost first load mark added fu
       eb = omega arith
 
       none_first : nth full e ≡ nth added e
-      none_first = omega (arith, A.Full-is e eb, F.is e (plain_below e eb), SlotLaws.first_end s e (omega arith) eb)
+      none_first = omega (arith, A.full_is e eb, F.is e (plain_below e eb), SlotLaws.first_end s e (omega arith) eb)
 
       at_root : 1 ≤ nth added e → nth from e ≡ 0
       at_root l =
@@ -244,5 +244,5 @@ module _ (s : List ℕ) (right : Reads s) (from to cost first load mark added fu
       }
     where
       low : (e : ℕ) → e < plain_slots s → (0 < nth added e) ⊎ (nth added e ≤ 0) → nth full e ≤ most_moved + max_demand
-      low e h (inl l) = omega (arith, A.Full-is e h, F.is e (plain_below e h), first_low e (plain_below e h), (added_there e h l).1, C.few e h)
-      low e h (inr z) = omega (arith, A.Full-is e h, F.is e (plain_below e h), first_low e (plain_below e h))
+      low e h (inl l) = omega (arith, A.full_is e h, F.is e (plain_below e h), first_low e (plain_below e h), (added_there e h l).1, C.few e h)
+      low e h (inr z) = omega (arith, A.full_is e h, F.is e (plain_below e h), first_low e (plain_below e h))
