@@ -1,5 +1,5 @@
 -- Counting the reads of the table: what one read adds at each vertex and arc, and what all of them come to.
-use Prim.Native.Nat.{ℕ, zero, suc, ◌+◌, ◌-◌, ◌*◌, ◌<◌, ◌≤◌}
+use Prim.Native.Nat.{ℕ, zero, suc, ◌+◌, ◌*◌, ◌<◌, ◌≤◌}
 use native.Mathlib.Nat.{add-zero, le_refl, le_of_eq}
 use native.Mathlib.Omega.{arith}
 use native.Mathlib.Numerals.{add-one}

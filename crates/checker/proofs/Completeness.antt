@@ -2,7 +2,6 @@
 -- a cover exists some answer form is accepted. Document 01 shuts out by name "a builder or checker that refuses always (.. demand 3's acceptance of every
 -- lowest-price cover)".
 use Prim.Native.Nat.{ℕ, zero, suc, ◌+◌, ◌*◌, ◌≤◌, ◌<◌}
-use native.Mathlib.Nat.{le_refl}
 use native.Mathlib.Omega.{arith}
 use mathlib.Core.Path.{◌≡◌, refl, sym, ap, subst, subst₂, ◌∙◌}
 use mathlib.Core.List.{List, [], ◌∷◌, ◌++◌}

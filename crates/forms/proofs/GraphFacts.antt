@@ -15,8 +15,8 @@ use Rattle.mathematics.specs.Range.{CostsHold}
 use Rattle.mathematics.proofs.Basics.{all_map}
 use Rattle.forms.specs.Bytes.{part, tabulate}
 use Rattle.forms.specs.Limits.{room_read_length}
-use Rattle.forms.specs.Layout.{max_vertices, max_arcs, max_reads, max_read_length, count_bytes, longest_graph}
-use Rattle.forms.specs.GraphForm.{vertex_count, arc_count, read_count, opening_price, vertex_at, arc_length, arc_at, arc_tail, arc_head, arc_cost, first_read_at, read_length, read_vertices, read_end}
+use Rattle.forms.specs.Layout.{max_vertices, max_read_length, count_bytes, longest_graph}
+use Rattle.forms.specs.GraphForm.{vertex_count, arc_count, read_count, opening_price, arc_at, arc_tail, arc_head, arc_cost, first_read_at, read_length, read_vertices, read_end}
 use Rattle.forms.specs.GraphOf.{vertex_of, arc_of, arcs_of, reads_from, graph_of}
 use Rattle.forms.specs.GraphReads.{Before, ReadRight, ReadsRight, ArcsRight, Reads, Within, HasRoom}
 use Rattle.forms.proofs.LayoutLaws.{graph_longest, vertex_grows}

@@ -8,7 +8,7 @@ use mathlib.Core.Bool.{Bool, true, false}
 use lib.Dec.{eqb}
 use lib.ListN.{length, get_or, set, replicate, get_or-replicate, get_or-eq_default, length-replicate}
 use lib.Seq.{get_or-set_other, ext_get_or}
-use Rattle.mathematics.specs.Graph.{Vertex, no_vertex, is_start, is_end}
+use Rattle.mathematics.specs.Graph.{Vertex, is_start, is_end}
 use Rattle.forms.specs.Limits.{room_vertices}
 use Rattle.forms.specs.GraphForm.{vertex_count, flags}
 use Rattle.forms.specs.GraphOf.{graph_of}

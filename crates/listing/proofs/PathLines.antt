@@ -12,7 +12,7 @@ use Rattle.forms.specs.Bytes.{be32, part}
 use Rattle.forms.specs.Limits.{room_vertices, room_paths}
 use Rattle.checker.specs.Check.{check_verdict, path_at, handed_out}
 use Rattle.text.specs.Text.{TextFits, Puts}
-use Rattle.text.proofs.Storing.{Still, still_all, still_next, still_none}
+use Rattle.text.proofs.Storing.{Still, still_all, still_none}
 use Rattle.listing.specs.Lines.{path_line}
 use Rattle.forms.proofs.LayoutLaws.{path_length_limit, vertices_room}
 use Rattle.listing.specs.Listing.{path_lines, longest_line}

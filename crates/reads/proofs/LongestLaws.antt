@@ -5,7 +5,7 @@ use native.Mathlib.Numerals.{add-one}
 use borrow.Author.Tests.{eq-eqb, ne_eqb, lt-ltb, le-ltb}
 use mathlib.Core.Path.{◌≡◌, refl, sym, ap, ap₂, ◌∙◌}
 use mathlib.Core.List.{List}
-use lib.ListN.{length, drop, drop_of_length-le}
+use lib.ListN.{drop, drop_of_length-le}
 use Rattle.mathematics.specs.Prepare.{overlap, Meeting, longest_with, longest_from, longest}
 use Rattle.reads.specs.ReadTable.{row_at, rows_of, TableHolds, next_at, with_from}
 use Rattle.reads.proofs.TableRows.{table_from, table_length}

@@ -1,5 +1,4 @@
 -- `certify::arc_slacks` gives the first arc with a slack below 0: the answer of all is that of those not yet passed.
-use Prim.Native.Nat.{◌-◌}
 use mathlib.Core.Path.{◌∙◌}
 use Rattle.forms.proofs.Scan.{scan_begins, scan_turns, scan_stops, scan_ends}
 use borrow.Author.Rules.{rules}

@@ -1,6 +1,5 @@
 -- `certify::arcs_sum` sums the parts of the arcs: with those left, the sum is that of all.
 use Prim.Native.Nat.{◌<◌}
-use Prim.Native.Nat.{◌-◌}
 use native.Mathlib.Omega.{arith}
 use Rattle.forms.specs.GraphForm.{arc_count}
 use Rattle.certify.proofs.CertifyLawsBound.{sum_begin, sum_turn, sum_end}

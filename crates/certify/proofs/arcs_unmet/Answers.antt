@@ -1,5 +1,4 @@
 -- `certify::arcs_unmet` gives the first arc with a demand unmet: the answer of all is that of those not yet passed.
-use Prim.Native.Nat.{◌-◌}
 use mathlib.Core.Path.{◌∙◌, refl}
 use native.Mathlib.Omega.{arith}
 use Rattle.forms.proofs.Scan.{scan_begins, scan_turns, scan_stops, scan_ends}

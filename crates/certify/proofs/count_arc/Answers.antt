@@ -1,7 +1,6 @@
 -- `certify::count_arc` counts the one arc from u to v, where it is found.
 use Rattle.certify.proofs.GrowthLaws.{found_arc}
 use native.Mathlib.Omega.{arith}
-use mathlib.Core.Path.{sym, ◌∙◌}
 use Rattle.certify.proofs.CertifyLawsCount.{arc_none, arc_one}
 use borrow.Author.Rules.{rules}
 use Rattle.certify.proofs.count_arc.Goals as goal

@@ -1,5 +1,4 @@
 -- `certify::count_reads` counts the reads of the table, a row a turn: with those left, the counts are those of all.
-use Prim.Native.Nat.{◌-◌}
 use Rattle.certify.proofs.CertifyLawsCount.{reads_begin, reads_low, reads_turn, reads_end}
 use Rattle.reads.proofs.TableRows.{table_row}
 use borrow.Author.Rules.{rules}

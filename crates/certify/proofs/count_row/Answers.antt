@@ -1,7 +1,6 @@
 -- `certify::count_row` counts a read at its vertices and arcs: with those left, the counts are those of the whole read.
 use lib.ListN.{length-set}
 use Rattle.certify.proofs.CertifyLawsCount.{row_number, count_begin, vertex_room, arc_room, count_turn, count_end}
-use Prim.Native.Nat.{◌-◌}
 use mathlib.Core.Path.{sym}
 use native.Mathlib.Omega.{arith}
 use borrow.Author.Rules.{rules}

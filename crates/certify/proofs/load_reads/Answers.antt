@@ -1,5 +1,4 @@
 -- `certify::load_reads` fills the table: the reads passed are in its first rows, the others are read from the offset on.
-use Prim.Native.Nat.{◌-◌}
 use native.Mathlib.Omega.{arith}
 use Rattle.certify.proofs.CertifyLawsTable.{load_begin, load_next, load_turn, load_end}
 use Rattle.forms.proofs.LayoutLaws.{read_length_room}

@@ -1,6 +1,5 @@
 -- `certify::reads_unmet` gives the first read that no path holds: the answer of all is that of those not yet passed.
 use borrow.Author.Tests.{not-true, not-false}
-use Prim.Native.Nat.{◌-◌}
 use mathlib.Core.Path.{◌∙◌, refl}
 use native.Mathlib.Omega.{arith}
 use Rattle.forms.proofs.Scan.{scan_begins, scan_turns, scan_stops, scan_ends}

@@ -2,7 +2,6 @@
 use mathlib.Core.Path.{sym}
 use Rattle.certify.proofs.CertifyLawsTable.{row_end, row_turn}
 use Rattle.forms.proofs.PartLaws.{part_none}
-use Prim.Native.Nat.{◌-◌}
 use lib.ListN.{length-set}
 use borrow.Author.Rules.{rules}
 use Rattle.certify.proofs.row_of.Goals as goal

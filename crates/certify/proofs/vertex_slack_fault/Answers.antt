@@ -2,7 +2,6 @@
 use Prim.Native.Nat.{ℕ}
 use mathlib.Core.Path.{◌≡◌, sym, ◌∙◌}
 use mathlib.Core.Bool.{Bool, true, false}
-use mathlib.Core.Logic.{⊎_elim}
 use native.Mathlib.Omega.{arith}
 use Rattle.certify.proofs.CertifyLaws.{vertex_crossed, start_crossed, end_crossed, vertex_held, in_mark_within, out_mark_within}
 use borrow.Author.Rules.{rules}

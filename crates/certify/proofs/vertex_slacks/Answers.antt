@@ -1,5 +1,4 @@
 -- `certify::vertex_slacks` gives the first vertex with a slack below 0: the answer of all is that of those not yet passed.
-use Prim.Native.Nat.{◌-◌}
 use mathlib.Core.Path.{◌∙◌, refl}
 use Rattle.forms.proofs.Scan.{scan_begins, scan_turns, scan_stops, scan_ends}
 use borrow.Author.Rules.{rules}

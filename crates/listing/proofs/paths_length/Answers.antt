@@ -1,6 +1,5 @@
 -- `listing::paths_length` meets its contract: at each turn the bytes counted and those of the remaining lines make the whole. The measure is the number of these lines.
 -- Assumes nothing.
-use Prim.Native.Nat.{◌-◌}
 use native.Mathlib.Omega.{arith}
 use Rattle.listing.proofs.Accepted.{graph_long, answer_long}
 use Rattle.listing.proofs.PathLines.{none_passed, path_inside, vertices_handed, vertices_few, one_passed, bytes_start, bytes_next, bytes_few, bytes_end}

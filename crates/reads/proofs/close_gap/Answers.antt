@@ -1,5 +1,4 @@
 -- `reads::close_gap` meets its contract: the rows up to k are those without the gap, and the rows from k on are as they were.
-use Prim.Native.Nat.{◌-◌}
 use Rattle.reads.proofs.JoinLaws.{gap_start, gap_turn, gap_end, gap_table}
 use borrow.Author.Rules.{rules}
 use Rattle.reads.proofs.close_gap.Goals as goal

@@ -1,5 +1,4 @@
 -- `reads::in_earlier` meets its contract: the answer over all lower rows is the answer over those not yet looked at.
-use Prim.Native.Nat.{◌-◌}
 use mathlib.Core.Path.{refl, ◌∙◌, sym}
 use Rattle.reads.proofs.TableRows.{table_row, earlier_here, earlier_end, or_found, or_rest}
 use borrow.Author.Rules.{rules}

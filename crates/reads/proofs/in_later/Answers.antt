@@ -1,5 +1,4 @@
 -- `reads::in_later` meets its contract: the answer over all higher rows is the answer over those not yet looked at.
-use Prim.Native.Nat.{◌-◌}
 use mathlib.Core.Path.{refl, ◌∙◌, sym}
 use Rattle.reads.proofs.TableRows.{table_row, later_here, later_end, or_found, or_rest}
 use borrow.Author.Rules.{rules}

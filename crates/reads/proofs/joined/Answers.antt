@@ -1,5 +1,4 @@
 -- `reads::joined` meets its contract: what is written, and what of the second read is still to come, are the joined read.
-use Prim.Native.Nat.{◌-◌}
 use native.Mathlib.Omega.{arith}
 use Rattle.reads.proofs.JoinLaws.{built_start, built_turn, built_end}
 use borrow.Author.Rules.{rules}

@@ -1,5 +1,4 @@
 -- `reads::longest` meets its contract: the longest of all is the longest of the best so far and the rows not yet looked at.
-use Prim.Native.Nat.{◌-◌}
 use mathlib.Core.Path.{sym, ◌∙◌}
 use Rattle.reads.proofs.LongestLaws.{all_start, all_turn, all_end}
 use borrow.Author.Rules.{rules}

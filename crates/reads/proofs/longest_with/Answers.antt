@@ -1,5 +1,4 @@
 -- `reads::longest_with` meets its contract: the longest of all is the longest of the best so far and the rows not yet looked at.
-use Prim.Native.Nat.{◌-◌}
 use mathlib.Core.Path.{refl, sym, ◌∙◌}
 use Rattle.reads.proofs.TableRows.{table_row}
 use Rattle.reads.proofs.LongestLaws.{with_turn, with_end}

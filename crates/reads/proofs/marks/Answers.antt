@@ -1,5 +1,4 @@
 -- `reads::marks` meets its contract: each row passed has its mark.
-use Prim.Native.Nat.{◌-◌}
 use native.Mathlib.Omega.{arith}
 use Rattle.reads.proofs.TableRows.{fill_turn}
 use borrow.Author.Rules.{rules}

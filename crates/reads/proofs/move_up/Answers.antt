@@ -1,5 +1,4 @@
 -- `reads::move_up` meets its contract: the rows kept so far, and what dropping leaves of the rest, are what dropping leaves of all.
-use Prim.Native.Nat.{◌-◌}
 use mathlib.Core.Path.{◌∙◌, sym}
 use Rattle.reads.proofs.DropLaws.{moved_start, moved_skip, moved_keep, moved_end, moved_table}
 use borrow.Author.Rules.{rules}

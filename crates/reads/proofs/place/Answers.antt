@@ -1,6 +1,5 @@
 -- `reads::place` meets its contract: the numbers passed are below v, so where the loop stops v stands or would stand.
 use Rattle.reads.proofs.TableLaws.{place_found, place_more, place_end}
-use Prim.Native.Nat.{◌-◌}
 use borrow.Author.Rules.{rules}
 use Rattle.reads.proofs.place.Goals as goal
 

@@ -1,6 +1,5 @@
 -- `reads::same_run` meets its contract: what is left of the two runs begins one another exactly when the whole runs do.
 use Rattle.reads.proofs.TableLaws.{run_turn, run_stop, run_end}
-use Prim.Native.Nat.{◌-◌}
 use borrow.Author.Rules.{rules}
 use Rattle.reads.proofs.same_run.Goals as goal
 

@@ -1,5 +1,4 @@
 -- `tally::holds_read` walks once along the path: what is left of the read and of the path decides.
-use Prim.Native.Nat.{◌-◌}
 use Rattle.tally.proofs.ReadsMetLaws.{holds_begin, holds_found, holds_met, holds_broken, holds_passed, holds_end}
 use borrow.Author.Rules.{rules}
 use Rattle.tally.proofs.holds_read.Goals as goal

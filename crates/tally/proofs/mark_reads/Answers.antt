@@ -1,6 +1,5 @@
 -- `tally::mark_reads` marks each read that the path holds, one record after another.
 use native.Mathlib.Omega.{arith}
-use Prim.Native.Nat.{◌-◌}
 use Rattle.tally.proofs.ReadsMetLaws.{reads_begin, reads_next, reads_turn, reads_end}
 use borrow.Author.Rules.{rules}
 use Rattle.tally.proofs.mark_reads.Goals as goal

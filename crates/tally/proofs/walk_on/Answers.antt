@@ -1,7 +1,5 @@
 -- `tally::walk_on` walks along a path: what is left of it decides, and adds what is lacking.
-use mathlib.Core.Path.{sym, ◌∙◌}
 use native.Mathlib.Omega.{arith}
-use Prim.Native.Nat.{◌-◌}
 use Rattle.tally.proofs.PathWalkLaws.{walk_fails, walk_begin, walk_outside, walk_nowhere, walk_turn, walk_end, arc_room, vertex_room}
 use Rattle.certify.proofs.GrowthLaws.{found_arc}
 use borrow.Author.Rules.{rules}

@@ -1,7 +1,6 @@
 -- `text::put_number` meets its contract: what the loop has stored and what is left of the number make its text. The measure is what is left.
 -- Assumes nothing.
 use native.Mathlib.Omega.{arith}
-use lib.ListN.{length-set}
 use borrow.Author.Rules.{rules}
 use Rattle.text.proofs.Digits.{digits_start, digits_turn, digits_end}
 use Rattle.text.proofs.put_number.Goals as goal

@@ -1,6 +1,5 @@
 -- `text::put_text` meets its contract: at each turn the rest of the text is still to be stored. The measure is its length.
 -- Assumes nothing.
-use Prim.Native.Nat.{◌-◌}
 use native.Mathlib.Omega.{arith}
 use Rattle.text.proofs.Storing.{copy_start, copy_turn, copy_end}
 use Rattle.text.proofs.put_text.Goals as goal

@@ -1,5 +1,4 @@
 -- `checker::answers::comes_before` compares two parts as lists: what is left of the two decides.
-use Prim.Native.Nat.{◌-◌}
 use Rattle.checker.proofs.AnswerLaws.{before_begins, before_short, before_less, before_more, before_turn, before_end}
 use borrow.Author.Rules.{rules}
 use Rattle.checker.proofs.answers.comes_before.Goals as goal

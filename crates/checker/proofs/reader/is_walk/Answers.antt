@@ -1,6 +1,5 @@
 -- `checker::reader::is_walk` meets its contract: whether all of it is a walk is whether it goes on from u along the rest.
 use borrow.Author.Rules.{rules}
-use Prim.Native.Nat.{◌-◌}
 use native.Mathlib.Omega.{arith}
 use mathlib.Core.Path.{sym, ◌∙◌}
 use Rattle.forms.proofs.WalkLaws.{walk_outside, walk_begins, walk_turns, walk_stops, walk_ends, goes_inside}

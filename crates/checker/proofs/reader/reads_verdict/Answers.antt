@@ -1,6 +1,5 @@
 -- `checker::reader::reads_verdict` meets its contract: the answer of all reads is that of those not yet passed.
 use borrow.Author.Rules.{rules}
-use Prim.Native.Nat.{◌-◌}
 use native.Mathlib.Omega.{arith}
 use mathlib.Core.Path.{sym, ◌∙◌}
 use Rattle.forms.proofs.RightLaws.{read_holds}

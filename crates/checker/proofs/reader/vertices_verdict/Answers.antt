@@ -1,6 +1,5 @@
 -- `checker::reader::vertices_verdict` meets its contract: the answer of all records is that of those not yet passed.
 use borrow.Author.Rules.{rules}
-use Prim.Native.Nat.{◌-◌}
 use mathlib.Core.Path.{◌∙◌}
 use Rattle.forms.proofs.Scan.{scan_begins, scan_turns, scan_stops, scan_ends}
 use Rattle.forms.proofs.LayoutLaws.{vertex_fits}

@@ -1,6 +1,5 @@
 -- `forms::arcs::arcs_below` meets its contract: no more arcs were passed than have a tail below u.
 use borrow.Author.Rules.{rules}
-use Prim.Native.Nat.{◌-◌}
 use Rattle.forms.proofs.ArcLaws.{below_inside, below_turns, below_stops, below_ends}
 use Rattle.forms.proofs.arcs.arcs_below.Goals as goal
 

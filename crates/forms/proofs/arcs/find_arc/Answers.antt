@@ -1,6 +1,5 @@
 -- `forms::arcs::find_arc` meets its contract: what is found among all arcs is what is found from arc a on.
 use borrow.Author.Rules.{rules}
-use Prim.Native.Nat.{◌-◌}
 use mathlib.Core.Path.{sym, ◌∙◌}
 use Rattle.forms.proofs.ArcLaws.{find_inside, find_begins, find_turns, find_stops, find_ends}
 use Rattle.forms.proofs.arcs.find_arc.Goals as goal

@@ -1,6 +1,5 @@
 -- `forms::arcs::first_arcs` meets its contract: the table is filled up to u, and no more arcs are counted than have a tail below u.
 use borrow.Author.Rules.{rules}
-use Prim.Native.Nat.{◌-◌}
 use native.Mathlib.Omega.{arith}
 use Rattle.forms.proofs.Filling.{fill_none, fill_more}
 use Rattle.forms.proofs.ArcLaws.{tails_grow, tails_most}

@@ -1,6 +1,5 @@
 -- `forms::roles::roles` fills the table: up to v each vertex has its role, and from there on stands 0.
 use borrow.Author.Rules.{rules}
-use Prim.Native.Nat.{◌-◌}
 use Rattle.forms.proofs.Filling.{fill_none, fill_more}
 use Rattle.forms.proofs.RoleLaws.{role_flagged, all_blank, less_blank, all_roles}
 use Rattle.forms.proofs.roles.roles.Goals as goal

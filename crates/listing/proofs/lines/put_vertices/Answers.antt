@@ -1,6 +1,5 @@
 -- `listing::lines::put_vertices` meets its contract: at each turn the texts of the remaining vertices are still to be stored. The measure is their number.
 -- Assumes nothing.
-use Prim.Native.Nat.{◌-◌}
 use native.Mathlib.Omega.{arith}
 use mathlib.Core.Path.{refl}
 use Rattle.text.specs.Text.{decimal}

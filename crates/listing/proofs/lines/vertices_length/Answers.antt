@@ -1,6 +1,5 @@
 -- `listing::lines::vertices_length` meets its contract: at each turn the bytes counted and those of the remaining vertices make the whole. The measure is their number.
 -- Assumes nothing.
-use Prim.Native.Nat.{◌-◌}
 use native.Mathlib.Omega.{arith}
 use Rattle.listing.proofs.Vertices.{vertex_counted, vertices_counted}
 use Rattle.listing.proofs.Lengths.{vertices_some}
