@@ -27,7 +27,7 @@ pub answered_twice : {s out out' out'' err err' err'' : List ℕ} {r r' : Writte
     AnsweredAlike s out' out'' err' err'' r r'
 answered_twice {s} P Q =
     record {
-      same_line = writes_once P.writes-Line Q.writes-Line;
+      same_line = writes_once P.writes_line Q.writes_line;
       same_refused = λ n. writes_once (nothing_written P n) (nothing_written Q n);
       both_accepted = λ z. (accepted_written P z, accepted_written Q z);
       price_is_same = λ z. accepted_prices_equal s _ _ (accepted_written P z) (accepted_written Q z);
