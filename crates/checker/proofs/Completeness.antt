@@ -187,7 +187,7 @@ module _ (s : List ℕ) (r : Reads s) where
   shown_acceptable W c reads few light ascending m fit shown =
       let holdable = all_holdable W light c.are_paths in
       let short = all_weaken (Holdable s) (λ w. length w.path ≤ room_vertices) W (λ w h. omega (arith, h.few_vertices, path_length_room s)) holdable in
-      let q = price_at_most (graph_of s) max_opening max_cost room_vertices (graph_within s r).low_opening (graph_within s r).arc_costs_lem W short in
+      let q = price_at_most (graph_of s) max_opening max_cost room_vertices (graph_within s r).low_opening (graph_within s r).low_arc_costs W short in
       let p = q.number in
       let e : price whole (graph_of s) W ≡ pos p = q.is in
       let l : p ≤ total_weight W * most_price = q.low in

@@ -118,7 +118,7 @@ graph_within s r =
       low_opening = record { number = opening_price s; is = refl; low = h.low_opening };
       vertex_demands = all_tabulate (vertex_of s) _ (vertex_count s) 0 (λ v a b. (r.vertices v (omega arith)).low_demand);
       arc_demands = all_tabulate (arc_of s) _ (arc_count s) 0 (λ a b c. (r.arcs.each a (omega arith)).low_demand);
-      arc_costs_lem =
+      low_arc_costs =
           all_tabulate (arc_of s) _ (arc_count s) 0
           (λ a b c. record { number = arc_cost s (arc_at s a); is = refl; low = (r.arcs.each a (omega arith)).low_cost });
       short_reads =

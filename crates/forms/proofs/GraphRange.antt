@@ -48,4 +48,4 @@ module _ (s : List ℕ) (G : Graph ℤ) (w : Within s G) where
 
   -- "arc cost 0..1,000,000"
   pub costs_low : All (λ (a : Arc ℤ). (c : ℕ) × (c ≤ max_cost) × (a.cost ≡ pos c)) G.arcs
-  costs_low = all_weaken (λ a. AtMost max_cost a.cost) _ G.arcs (λ (a : Arc ℤ) c. (c.number, c.low, c.is)) w.arc_costs_lem
+  costs_low = all_weaken (λ a. AtMost max_cost a.cost) _ G.arcs (λ (a : Arc ℤ) c. (c.number, c.low, c.is)) w.low_arc_costs

@@ -82,7 +82,7 @@ pub record Within (s : List ℕ) (G : Graph ℤ) : Type 0 where
   pub low_opening : AtMost max_opening G.opening
   pub vertex_demands : All (λ v. v.demand ≤ max_demand) G.vertices
   pub arc_demands : All (λ a. a.demand ≤ max_demand) G.arcs
-  pub arc_costs_lem : All (λ a. AtMost max_cost a.cost) G.arcs
+  pub low_arc_costs : All (λ a. AtMost max_cost a.cost) G.arcs
   pub short_reads : All (λ r. length r ≤ max_read_length s) G.reads
 
 -- what the tables hold of a graph: every form that reads, of whatever version, has room in them
