@@ -1,4 +1,4 @@
-/* The library's calls for C, C++ and Rust; `rt staticlib calls` writes the archive. Contracts: crates/calls/src/lib.rt.
+/* The library's calls for C, C++ and Rust; `tools/build calls` writes the archive, crates/calls/out/libcalls.a. Contracts: crates/calls/src/lib.rt.
  *
  * Each takes every byte string and comes to an end. A slice is a pointer and a length. Number and place are returned by value; both are 0
  * where nothing is refused, and docs/FORMS.md says what each number means and where its place is. Nothing that is lent changes but out, and

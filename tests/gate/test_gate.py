@@ -87,6 +87,10 @@ for name, least in tests.items():
     fails(f"{name} not listed", edits_list(lambda lines: [line for line in lines if line.split(None, 1)[1:] != [name + "\n"]]))
 first = next(iter(tests))
 fails("a row that fails, status 0", says(first, f"echo '{tests[first]} passed, 1 failed'\n"))
+fails("a must-fail edit that is bad", says("rt ci", f"echo 'rt: ok; handles allowed: none; must-fail edits: 83 refused, 1 bad; every proof was done'; "
+                                                  f"echo '{tests['rt ci']} passed, 0 failed'\n"))
+holds_that("each must-fail edit is refused", gate(says("rt ci", "echo 'rt: ok; handles allowed: none; must-fail edits: 84 refused; every proof was done'; "
+                                                             f"echo '{tests['rt ci']} passed, 0 failed'\n")), (0, sum(tests.values()), 0))
 fails("a failure in the first of two counts", says(first, f"echo '{tests[first]} passed, 1 failed'; echo '{tests[first]} passed, 0 failed'\n"))
 fails("a test that dies after its count", says(first, f"echo '{tests[first]} passed, 0 failed'; exit 3\n"))
 fails("a test that is killed", says(first, f"echo '{tests[first]} passed, 0 failed'; kill -9 $$\n"))

@@ -8,8 +8,10 @@ assemble and answer: refusals as the reference has them; the price is the second
 reference; the listing is that of the answer, and `recheck` prints it too.
 """
 
+import glob
 import os
 import random
+import re
 import subprocess
 import sys
 import tempfile
@@ -32,7 +34,7 @@ from tally import holds_that as counted
 
 LONGEST_INPUT = 65_536
 
-# Each program that sees the toolchain's library of files, `os`, and the files that it reads.
+# Each program that opens files, by the library's `std::fs`, and the files that it reads.
 READS_FILES = {"recheck": ("graph.bin", "cover.bin")}
 
 
@@ -146,11 +148,11 @@ for what, g in (("nothing", b""), ("12 bytes", graph[:12]), ("a cut graph", grap
     try_assemble(what, g)
 
 # Each file is read once, and what is listed comes from the bytes held.
-with open(os.path.join(ROOT, "crates.txt")) as f:
-    crates = dict(line.split(":") for line in f if ":" in line and not line.startswith("#"))
-for program in crates:
-    if "os" in crates[program].split() and os.path.exists(os.path.join(ROOT, "crates", program, "src", "main.rt")):
-        holds_that(program in READS_FILES, True, f"{program} can open files: its readings are tried")
+for path in sorted(glob.glob(os.path.join(ROOT, "crates", "*", "src", "*.rt"))):
+    with open(path) as f:
+        if re.search(r"\bfs\b", f.read()):
+            program = path.split(os.sep)[-3]
+            holds_that(program in READS_FILES, True, f"{program} can open files: its readings are tried")
 pairs = [(encode_graph(g), encode_answer(a)) for g, a in ((D, D_ANSWER), (D_WITH_3, D_WITH_3_ANSWER), (X, X_ANSWER))]
 unsound = (graph, encode_answer(D_ANSWER._replace(price=33)))
 for program in READS_FILES:

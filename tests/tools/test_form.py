@@ -115,11 +115,11 @@ for answer in (d_answer, wrong_price):
 # The tools beside programs that are not built, or do not judge.
 with tempfile.TemporaryDirectory() as other:
     shutil.copytree(os.path.join(ROOT, "tools"), os.path.join(other, "tools"), ignore=shutil.ignore_patterns("__pycache__"))
-    tool, binary = os.path.join(other, "tools", "form.py"), os.path.join(other, "target", "bin", "recheck")
+    tool, binary = os.path.join(other, "tools", "form.py"), os.path.join(other, "crates", "recheck", "out", "recheck")
     files = {"graph.bin": d, "cover.bin": d_answer}
     holds_that("recheck is not built", run(*PAIR, files=files, tool=tool)[:2], (1, b""))
     os.makedirs(os.path.dirname(binary))
-    shutil.copy(os.path.join(ROOT, "target", "bin", "assemble"), binary)
+    shutil.copy(os.path.join(ROOT, "crates", "assemble", "out", "assemble"), binary)
     holds_that("a program that reads something else in its place", run(*PAIR, files=files, tool=tool)[:2], (1, b"refused 1 0\n"))
     with open(os.path.join(other, "tools", "run"), "w") as f:
         f.write("#!/bin/sh\necho 'cover 2 34'\n")
@@ -235,9 +235,7 @@ with tempfile.TemporaryDirectory() as other:
     for name in ("link", "second", "tools/run"):
         holds_that(f"tools/run as {name}", run("assemble", stdin=d, tool=os.path.join(other, name)), wanted)
     holds_that("form.py by a link", run(*PAIR, files={"graph.bin": d, "cover.bin": d_answer}, tool=os.path.join(other, "tools", "form.py")), shown(d, d_answer))
-    kit = os.path.dirname(os.path.dirname(os.path.realpath(shutil.which("rt"))))
     os.makedirs(os.path.join(other, "kit", "bin"))
-    os.symlink(os.path.join(kit, "on"), os.path.join(other, "kit", "on"))
     with open(os.path.join(other, "kit", "bin", "rt"), "w") as f:
         f.write(f"#!/bin/sh\ntouch '{other}/started'\n")
     os.chmod(os.path.join(other, "kit", "bin", "rt"), 0o755)

@@ -1,6 +1,5 @@
 -- "Show that any two results allowed by a promise are equal", with "the builder's choice among lowest-price covers, and of marks" as the exception.
 use Prim.Native.Nat.{ℕ}
-use mathlib.Core.Path.{◌≡◌}
 use mathlib.Core.List.{List}
 use mathlib.Core.Logic.{◌≢◌}
 use borrow.Author.Tests.{ne_eqb}

@@ -1,5 +1,4 @@
 -- `coverage_vectors::read_numbers` meets its contract: no more numbers than the list has entries. What is left of the list falls. Assumes nothing.
-use Prim.Native.Nat.{◌-◌}
 use Rattle.io.proofs.Counting.{prefix_len_of_le}
 use borrow.Author.Rules.{rules}
 use Rattle.coverage_vectors.proofs.read_numbers.Goals as goal

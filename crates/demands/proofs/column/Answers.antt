@@ -1,5 +1,4 @@
 -- `demands::column` meets its contract: no more numbers than the list has entries. What is left of the list falls. Assumes nothing.
-use Prim.Native.Nat.{◌-◌}
 use Rattle.io.proofs.Counting.{prefix_len_of_le}
 use borrow.Author.Rules.{rules}
 use Rattle.demands.proofs.column.Goals as goal

@@ -1,5 +1,5 @@
 use Rattle.wiring.proofs.LayLaws.{counted, edges_at, lay_arc, arc_whole, arc_low}
-use Prim.Native.Nat.{◌+◌, ◌-◌}
+use Prim.Native.Nat.{◌+◌}
 use native.Mathlib.Omega.{arith}
 use mathlib.Core.Path.{◌≡◌, sym}
 use Rattle.forms.specs.GraphForm.{vertex_count, arc_count}

@@ -1,6 +1,6 @@
 use Rattle.wiring.proofs.LayLaws.{counted, edges_at, lay_closing}
 use Rattle.paths.specs.Slots.{plain_slots}
-use Prim.Native.Nat.{◌+◌, ◌*◌, ◌-◌}
+use Prim.Native.Nat.{◌+◌, ◌*◌}
 use native.Mathlib.Omega.{arith}
 use mathlib.Core.Path.{◌≡◌, refl}
 use Rattle.forms.specs.GraphForm.{vertex_count, arc_count}

@@ -1,5 +1,4 @@
 use Rattle.wiring.proofs.LayLawsLoad.{live_none, live_more}
-use Prim.Native.Nat.{◌-◌}
 use native.Mathlib.Omega.{arith}
 use mathlib.Core.Path.{◌≡◌}
 use Rattle.forms.specs.GraphForm.{vertex_count}

@@ -1,5 +1,5 @@
 use Rattle.wiring.proofs.LayLaws.{counted, edges_at, lay_opening}
-use Prim.Native.Nat.{ℕ, ◌+◌, ◌*◌, ◌-◌}
+use Prim.Native.Nat.{ℕ, ◌+◌, ◌*◌}
 use native.Mathlib.Omega.{arith}
 use mathlib.Core.Path.{◌≡◌, refl, sym, ap₂}
 use Rattle.forms.specs.GraphForm.{vertex_count, arc_count}

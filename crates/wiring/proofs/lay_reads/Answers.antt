@@ -2,7 +2,7 @@ use Rattle.wiring.proofs.LayLaws.{counted, edges_at, lay_read, read_some}
 use lib.ListN.{length}
 use Rattle.reads.proofs.TableRows.{table_length}
 use Rattle.paths.specs.Slots.{all_slots, prepared_of}
-use Prim.Native.Nat.{◌+◌, ◌*◌, ◌-◌}
+use Prim.Native.Nat.{◌+◌, ◌*◌}
 use native.Mathlib.Omega.{arith}
 use mathlib.Core.Path.{◌≡◌, refl, sym, ap, ◌∙◌}
 use Rattle.forms.specs.GraphForm.{vertex_count, arc_count}

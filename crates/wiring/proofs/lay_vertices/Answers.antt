@@ -1,5 +1,4 @@
 use Rattle.wiring.proofs.LayLaws.{counted, edges_at, lay_vertex}
-use Prim.Native.Nat.{◌-◌}
 use native.Mathlib.Omega.{arith}
 use mathlib.Core.Path.{◌≡◌, refl}
 use Rattle.forms.specs.GraphForm.{vertex_count}

@@ -1,6 +1,6 @@
 use Rattle.wiring.proofs.LayLawsLoad.{loads_at, load_arc}
 use Rattle.wiring.proofs.LayLaws.{counted, arc_whole}
-use Prim.Native.Nat.{◌+◌, ◌-◌}
+use Prim.Native.Nat.{◌+◌}
 use native.Mathlib.Omega.{arith}
 use mathlib.Core.Path.{◌≡◌, sym}
 use Rattle.forms.specs.GraphForm.{vertex_count, arc_count}

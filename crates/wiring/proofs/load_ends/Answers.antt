@@ -1,7 +1,7 @@
 use Rattle.wiring.proofs.LayLawsLoad.{loads_at, load_end}
 use Rattle.wiring.proofs.LayLaws.{counted}
 use Rattle.paths.specs.Slots.{all_slots}
-use Prim.Native.Nat.{ℕ, ◌+◌, ◌-◌}
+use Prim.Native.Nat.{ℕ, ◌+◌}
 use native.Mathlib.Omega.{arith}
 use mathlib.Core.Path.{◌≡◌, refl, sym, ap₂}
 use Rattle.wiring.proofs.load_ends.Goals as goal

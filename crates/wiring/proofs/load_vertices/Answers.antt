@@ -1,6 +1,5 @@
 use Rattle.wiring.proofs.LayLawsLoad.{loads_at, load_vertex}
 use Rattle.wiring.proofs.LayLaws.{counted}
-use Prim.Native.Nat.{◌-◌}
 use native.Mathlib.Omega.{arith}
 use mathlib.Core.Path.{◌≡◌, refl}
 use Rattle.forms.specs.GraphForm.{vertex_count}

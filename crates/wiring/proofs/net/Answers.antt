@@ -1,5 +1,4 @@
 use Rattle.wiring.proofs.LayLawsBalance.{net_less, net_more}
-use Prim.Native.Nat.{◌-◌}
 use native.Mathlib.Omega.{arith}
 use mathlib.Core.Path.{◌≡◌}
 use Rattle.wiring.proofs.net.Goals as goal

@@ -1,6 +1,5 @@
 -- `writing::put_marks` meets its contract. The loop's invariant: the marks of the vertices before v are put, and nothing else is changed.
 use native.Mathlib.Omega.{arith}
-use Prim.Native.Nat.{◌-◌}
 use mathlib.Core.Path.{◌≡◌, refl, subst}
 use Rattle.forms.specs.GraphForm.{vertex_count}
 use Rattle.forms.specs.AnswerForm.{in_mark_at, first_path_at}

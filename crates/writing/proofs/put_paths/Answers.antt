@@ -1,6 +1,5 @@
 -- `writing::put_paths` meets its contract. The loop's invariant: the records of the first i paths are put, `end` is the place behind them, and no record is longer than the longest.
 use native.Mathlib.Omega.{arith}
-use Prim.Native.Nat.{◌-◌}
 use mathlib.Core.Path.{◌≡◌, refl}
 use Rattle.forms.proofs.LayoutLaws.{paths_room}
 use Rattle.writing.proofs.WritingLaws.{ends_none, ends_turn, paths_none, paths_turn, placed_length, record_room}

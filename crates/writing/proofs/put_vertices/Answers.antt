@@ -4,7 +4,6 @@ use Rattle.writing.proofs.WritingLaws.{placed_none, vertices_turn}
 use Rattle.writing.specs.Writing.{Placed}
 use lib.ListN.{get_or, take, length-set}
 use mathlib.Core.Path.{◌≡◌, refl, subst}
-use Prim.Native.Nat.{◌-◌}
 use native.Mathlib.Omega.{arith}
 use Rattle.writing.proofs.put_vertices.Goals as goal
 

@@ -1,6 +1,5 @@
 -- `builder::build::add_loads` meets its contract. The loop's invariant: the edges before e are added, the others are as they were. Assumes nothing.
 use Rattle.builder.proofs.FinishLawsStages.{adding_none, adding_more, adding_done}
-use Prim.Native.Nat.{◌-◌}
 use native.Mathlib.Omega.{arith}
 use Rattle.builder.proofs.build.add_loads.Goals as goal
 

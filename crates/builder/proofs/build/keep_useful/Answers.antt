@@ -3,7 +3,7 @@ use Rattle.forms.proofs.Filling.{fill_none, fill_more}
 use Rattle.forms.specs.GraphForm.{vertex_count}
 use mathlib.Core.Bool.{◌&&◌}
 use mathlib.Core.Path.{ap₂, ◌∙◌}
-use Prim.Native.Nat.{◌<◌, ◌-◌}
+use Prim.Native.Nat.{◌<◌}
 use native.Mathlib.Omega.{arith}
 use Rattle.builder.proofs.build.keep_useful.Goals as goal
 

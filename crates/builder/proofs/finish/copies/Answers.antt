@@ -3,7 +3,7 @@ use Rattle.wiring.proofs.SlotLaws.{sum_up}
 use Rattle.builder.proofs.FinishLaws.{sum_more}
 use Rattle.network.specs.Network.{nth, sum_to}
 use mathlib.Core.Path.{◌≡◌, refl, ap, ◌∙◌}
-use Prim.Native.Nat.{suc, ◌-◌, ◌+◌}
+use Prim.Native.Nat.{suc, ◌+◌}
 use native.Mathlib.Omega.{arith}
 use Rattle.builder.proofs.finish.copies.Goals as goal
 

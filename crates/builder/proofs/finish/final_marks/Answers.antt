@@ -3,7 +3,7 @@ use Rattle.builder.proofs.FinishLaws.{held_is}
 use Rattle.forms.proofs.Filling.{fill_none, fill_more}
 use Rattle.forms.specs.GraphForm.{vertex_count}
 use Rattle.mathematics.proofs.Links.{in_node, out_node}
-use Prim.Native.Nat.{◌<◌, ◌-◌}
+use Prim.Native.Nat.{◌<◌}
 use native.Mathlib.Omega.{arith}
 use Rattle.builder.proofs.finish.final_marks.Goals as goal
 

@@ -1,7 +1,5 @@
 -- `builder::finish::final_price` meets its contract. The loop's invariant: the price so far is the opening prices and the costs at the first a arcs; it never passes the whole price, so nothing wraps. Assumes nothing.
 use Rattle.builder.proofs.FinishLaws.{price_done, copies_asked, first_price, first_fits, total_fits, next_price, next_fits}
-use Rattle.forms.specs.GraphForm.{opening_price}
-use Prim.Native.Nat.{◌-◌}
 use native.Mathlib.Omega.{arith}
 use Rattle.builder.proofs.finish.final_price.Goals as goal
 
