@@ -40,7 +40,8 @@ fn certificate_verdict(
     if unmet.number != 0 {
         return unmet;
     }
-    if price != stated {
+    let differs = price != stated;
+    if differs {
         return Verdict::new(20, 0);
     }
     let slacks = slacks_verdict(s, roles, t);
