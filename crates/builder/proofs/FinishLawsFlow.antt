@@ -120,7 +120,7 @@ module _ (plain more : ℕ) (from to load first added full : List ℕ) (A : Adde
 -- ---- what the flow leaves
 
 module _ (s : List ℕ) (right : Reads s) (from to cost first load mark added full : List ℕ) (live : List Bool) (moved : ℕ) (E : EdgesLaid s (all_slots s) from to cost)
-    (F : LoadsLaid s (all_slots s) first) (first-used : (e : ℕ) → e < all_slots s → 1 ≤ first_load s e → T (in_use s (link_at s e)))
+    (F : LoadsLaid s (all_slots s) first) (first_used : (e : ℕ) → e < all_slots s → 1 ≤ first_load s e → T (in_use s (link_at s e)))
     (first_low : (e : ℕ) → e < all_slots s → first_load s e ≤ max_demand) (K : LiveLaid s (2 * vertex_count s + 1) live)
     (C : Carried (2 * vertex_count s + 1) (plain_slots s) live from to cost load mark (λ u. entering to first (all_slots s) u) (λ u. leaving from first (all_slots s) u) moved)
     (few : moved ≤ most_moved) (A : Added (plain_slots s) from to load first added full) where
@@ -192,8 +192,8 @@ module _ (s : List ℕ) (right : Reads s) (from to cost first load mark added fu
         where
           pick : (0 < nth added e) ⊎ (nth added e ≤ 0) → T (in_use s (link_at s e))
           pick (inl a) = added_used e l a
-          pick (inr z) = first-used e h (omega (arith, A.full_is e l, F.is e h))
-      used e h k (inr g) = first-used e h (omega (arith, A.kept e g, F.is e h))
+          pick (inr z) = first_used e h (omega (arith, A.full_is e l, F.is e h))
+      used e h k (inr g) = first_used e h (omega (arith, A.kept e g, F.is e h))
 
   -- what is added to an opening leaves the root
   opening_sends : (k : ℕ) → k < vertex_count s →

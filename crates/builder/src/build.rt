@@ -335,7 +335,8 @@ pub fn build_within(graph: &[u8], out: &mut [u8], fuel: usize) -> Built
     reach_ends(graph, &roles, &mut reaching);
     let lacking = first_lacking(graph, &reached, &reaching);
     let refused = first_refusal(graph, lacking.number, lacking.place, out.len());
-    if refused.number != 0 {
+    let is_refused = refused.number != 0;
+    if is_refused {
         return Built {
             number: refused.number,
             place: refused.place,

@@ -118,13 +118,13 @@ module _ (s t vertex_totals arc_totals : List ℕ) (met : List Bool) (cost : ℕ
     pub some_unmet : (unmet.number ≡ 0 → ⊥) → unmet ≡ certificate_verdict whole (graph_of s) (cover_of s t) (pos (stated_price s t)) (answer_marks s t)
     some_unmet h = then_refused _ e h ∙ sym certificate_is
 
-    module _ (all-met : unmet.number ≡ 0) where
+    module _ (all_met : unmet.number ≡ 0) where
       pub price_differs : (cost ≡ stated_price s t → ⊥) → refusal 20 0 ≡ certificate_verdict whole (graph_of s) (cover_of s t) (pos (stated_price s t)) (answer_marks s t)
-      price_differs h = then_passed e all-met (simp (ne_eqb cost (stated_price s t) h)) ∙ sym certificate_is
+      price_differs h = then_passed e all_met (simp (ne_eqb cost (stated_price s t) h)) ∙ sym certificate_is
 
       module _ (same : cost ≡ stated_price s t) {slacks : Verdict} (d : slacks ≡ slacks_verdict s t) where
         pub slack_below : (slacks.number ≡ 0 → ⊥) → slacks ≡ certificate_verdict whole (graph_of s) (cover_of s t) (pos (stated_price s t)) (answer_marks s t)
-        slack_below h = then_passed e all-met (simp (eq-eqb cost (stated_price s t) same) (then_refused _ d h)) ∙ sym certificate_is
+        slack_below h = then_passed e all_met (simp (eq-eqb cost (stated_price s t) same) (then_refused _ d h)) ∙ sym certificate_is
 
         module _ (none : slacks.number ≡ 0) {b : ℕ} (is : pos b ≡ bound whole (graph_of s) (answer_marks s t)) where
           bound_test : same_price whole (bound whole (graph_of s) (answer_marks s t)) (pos (stated_price s t)) ≡ eqb b (stated_price s t)
@@ -132,12 +132,12 @@ module _ (s t vertex_totals arc_totals : List ℕ) (met : List Bool) (cost : ℕ
 
           pub bound_differs : (b ≡ stated_price s t → ⊥) → refusal 22 0 ≡ certificate_verdict whole (graph_of s) (cover_of s t) (pos (stated_price s t)) (answer_marks s t)
           bound_differs h =
-              then_passed e all-met
+              then_passed e all_met
               (simp (eq-eqb cost (stated_price s t) same) (then_passed d none (simp (bound_test, ne_eqb b (stated_price s t) h)))) ∙ sym certificate_is
 
           pub all_certified : b ≡ stated_price s t → nothing_refused ≡ certificate_verdict whole (graph_of s) (cover_of s t) (pos (stated_price s t)) (answer_marks s t)
           all_certified h =
-              then_passed e all-met
+              then_passed e all_met
               (simp (eq-eqb cost (stated_price s t) same) (then_passed d none (simp (bound_test, eq-eqb b (stated_price s t) h)))) ∙ sym certificate_is
 
 -- where no slack is refused, none is below 0

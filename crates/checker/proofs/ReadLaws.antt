@@ -24,21 +24,21 @@ module _ (s : List ℕ) (at : ℕ) where
     unfolding read_fault
     read_few h = simp (le-ltb _ _ begins, lt-ltb _ _ h)
 
-    module _ (not-few : min_read_length ≤ read_length s at) where
+    module _ (not_few : min_read_length ≤ read_length s at) where
       pub read_many : max_read_length s < read_length s at → 7 ≡ read_fault s at
       unfolding read_fault
-      read_many h = simp (le-ltb _ _ begins, le-ltb _ _ not-few, lt-ltb _ _ h)
+      read_many h = simp (le-ltb _ _ begins, le-ltb _ _ not_few, lt-ltb _ _ h)
 
-      module _ (not-many : read_length s at ≤ max_read_length s) where
+      module _ (not_many : read_length s at ≤ max_read_length s) where
         pub read_short : length s < read_end s at → 5 ≡ read_fault s at
         unfolding read_fault
-        read_short h = simp (le-ltb _ _ begins, le-ltb _ _ not-few, le-ltb _ _ not-many, lt-ltb _ _ h)
+        read_short h = simp (le-ltb _ _ begins, le-ltb _ _ not_few, le-ltb _ _ not_many, lt-ltb _ _ h)
 
         module _ (whole : read_end s at ≤ length s) {count from : ℕ} (read : count ≡ read_length s at) (stands : from ≡ read_vertices_at s at) {w : Bool} (walked : w ≡ walks (vertex_count s) (arcs_of s) (part s from count)) where
           last : read_fault s at ≡ cond w 0 7
           unfolding read_fault
           last =
-              simp (le-ltb _ _ begins, le-ltb _ _ not-few, le-ltb _ _ not-many, le-ltb _ _ whole)
+              simp (le-ltb _ _ begins, le-ltb _ _ not_few, le-ltb _ _ not_many, le-ltb _ _ whole)
               (ap (λ b. cond b 0 7) (sym (rw (read, stands) at walked)))
 
           pub read_broken : w ≡ false → 7 ≡ read_fault s at

@@ -40,15 +40,16 @@ fn certificate_verdict(
     if unmet.number != 0 {
         return unmet;
     }
-    let differs = price != stated;
-    if differs {
+    let price_differs = price != stated;
+    if price_differs {
         return Verdict::new(20, 0);
     }
     let slacks = slacks_verdict(s, roles, t);
     if slacks.number != 0 {
         return slacks;
     }
-    if bound_of(s, first, t) != stated {
+    let bound_differs = bound_of(s, first, t) != stated;
+    if bound_differs {
         return Verdict::new(22, 0);
     }
     Verdict::new(0, 0)

@@ -6,7 +6,7 @@ ghost use Rattle.forms.specs.GraphFaults.{header_verdict, vertex_fault, arc_faul
 ghost use Rattle.forms.specs.GraphForm.{header_length, length_word, vertex_at, vertex_count, arc_count, first_arc_at, arc_at, read_count, opening_price, first_read_at};
 ghost use Rattle.forms.specs.GraphOf.{arcs_of};
 ghost use Rattle.forms.specs.GraphReads.{HeaderRight};
-ghost use Rattle.forms.specs.Layout.{version as versionOf, newest};
+ghost use Rattle.forms.specs.Layout.{version as version_of, newest};
 ghost use Rattle.forms.specs.Limits.{room_vertices, room_arcs};
 
 use forms::arcs::{find_arc, first_arcs};
@@ -22,7 +22,7 @@ use forms::{Found, Graph, Header, Verdict};
 
 // What is wrong with the counts and the opening price of a header whose length and version are right: 3 or 4.
 fn counts_verdict(s: &[u8], header: Header) -> Verdict
-    requires s_in_bounds { (header_length s.now ≤ length s.now) × (length_word s.now ≡ length s.now) × (1 ≤ versionOf s.now) × (versionOf s.now ≤ newest) }
+    requires s_in_bounds { (header_length s.now ≤ length s.now) × (length_word s.now ≡ length s.now) × (1 ≤ version_of s.now) × (version_of s.now ≤ newest) }
     requires vertices_value { (header.vertices ≡ vertex_count s.now) × (header.arcs ≡ arc_count s.now) × (header.reads ≡ read_count s.now) × (header.opening ≡ opening_price s.now) }
     ensures { result ≡ header_verdict s.now }
 {

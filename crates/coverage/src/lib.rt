@@ -131,7 +131,8 @@ pub fn demands(bases: &[u32], lengths: &[u32], demands: &mut [u32]) -> Filled
         };
     }
     let verdict = exons_verdict(bases, lengths);
-    if verdict.number != 0 {
+    let is_refused = verdict.number != 0;
+    if is_refused {
         return Filled {
             number: verdict.number,
             place: verdict.place,

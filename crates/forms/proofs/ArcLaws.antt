@@ -94,16 +94,16 @@ module _ (s : List ℕ) (base count u a : ℕ) (c : ArcsFrom s base count) (pass
   pub below_inside : a < count → arc_at s a + arc_length ≤ length s
   below_inside h = (c.right.each a (omega (arith, c.arcs))).whole
 
-  module _ {tail : ℕ} (its-tail : tail ≡ tail_of s a) where
+  module _ {tail : ℕ} (its_tail : tail ≡ tail_of s a) where
     pub below_turns : a < count → tail < u → a + 1 ≤ tails_below (arcs_of s) u
     below_turns h l =
         elim (dec_le (a + 1) (tails_below (arcs_of s) u))
-        [ yes y ↦ y | no y ↦ absurd (omega (arith, its-tail, (whole_cut s c.right u).high a (omega arith) (omega (arith, c.arcs)))) ]
+        [ yes y ↦ y | no y ↦ absurd (omega (arith, its_tail, (whole_cut s c.right u).high a (omega arith) (omega (arith, c.arcs)))) ]
 
     pub below_stops : u ≤ tail → a ≡ tails_below (arcs_of s) u
     below_stops l =
         elim (dec_le (tails_below (arcs_of s) u) a)
-        [ yes y ↦ omega arith | no y ↦ absurd (omega (arith, its-tail, (whole_cut s c.right u).low a (omega arith) (omega arith))) ]
+        [ yes y ↦ omega arith | no y ↦ absurd (omega (arith, its_tail, (whole_cut s c.right u).low a (omega arith) (omega arith))) ]
 
   pub below_ends : count ≤ a → a ≡ tails_below (arcs_of s) u
   below_ends h = omega (arith, (whole_cut s c.right u).most, c.arcs)
@@ -169,7 +169,7 @@ module _ (s : List ℕ) (u v : ℕ) where
   start = rw sub-zero
 
   -- where the table has u's first arc, and the first arc of the next vertex: between the two lie the arcs of tail u
-  module _ {first : List ℕ} (t : ArcTable s first) (u-low : u < room_vertices) where
+  module _ {first : List ℕ} (t : ArcTable s first) (u_low : u < room_vertices) where
     from_at : get_or first u 0 ≡ tails_below (arcs_of s) u
     from_at = t.at u (omega arith)
 
@@ -197,15 +197,15 @@ module _ (s : List ℕ) (u v : ℕ) where
           (whole_cut s t.arcs (u + 1)).low a (omega arith) (omega (arith, end_at)),
         )
 
-    module _ (a : ℕ) (l : get_or first u 0 ≤ a) (h : a < get_or first (u + 1) 0) {head : ℕ} (its-head : head ≡ head_of s a) where
+    module _ (a : ℕ) (l : get_or first u 0 ≤ a) (h : a < get_or first (u + 1) 0) {head : ℕ} (its_head : head ≡ head_of s a) where
       pub find_turns : (head ≡ v → ⊥) → (a + 1 ≤ arc_count s) × (found_from a ≡ found_from (a + 1))
       find_turns other = (
         omega (arith, within a h),
-        skip a (within a h) (simp (eq-eqb _ _ (tail_is a l h), ne_eqb _ _ (λ e. other (its-head ∙ e)))),
+        skip a (within a h) (simp (eq-eqb _ _ (tail_is a l h), ne_eqb _ _ (λ e. other (its_head ∙ e)))),
       )
 
       pub find_stops : head ≡ v → found_from a ≡ At a
-      find_stops e = stop a (within a h) (simp (eq-eqb _ _ (tail_is a l h), eq-eqb _ _ (sym its-head ∙ e)))
+      find_stops e = stop a (within a h) (simp (eq-eqb _ _ (tail_is a l h), eq-eqb _ _ (sym its_head ∙ e)))
 
     pub find_ends : (a : ℕ) → a ≤ arc_count s → get_or first (u + 1) 0 ≤ a → found_from a ≡ Missing
     find_ends a few h =

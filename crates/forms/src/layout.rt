@@ -2,14 +2,14 @@
 // so none asks its caller for anything: a version that reads otherwise changes the function here and nothing above.
 ghost use Rattle.std.specs.Prelude.{◌≡◌, ◌+◌, ◌<◌, ◌≤◌, length};
 ghost use Rattle.forms.specs.Limits.{room_vertices, room_arcs, room_reads, room_read_length, room_paths};
-ghost use Rattle.forms.specs.Layout.{version as versionOf, max_vertices, max_arcs, max_reads, max_read_length, max_paths, max_weight, count_bytes, count_at, max_flag, vertex_length, answer_version_of, price_parts, max_path_length, longest_answer};
+ghost use Rattle.forms.specs.Layout.{version as version_of, max_vertices, max_arcs, max_reads, max_read_length, max_paths, max_weight, count_bytes, count_at, max_flag, vertex_length, answer_version_of, price_parts, max_path_length, longest_answer};
 
 use crate::bytes::wide;
 use crate::{Answer, Graph};
 
 // A graph form's version; 0 where the form is too short to have one.
 pub fn version(s: &[u8]) -> usize
-    ensures value { result ≡ versionOf s.now }
+    ensures value { result ≡ version_of s.now }
     ensures small { result < 256 }
 {
     if s.len() <= Graph::AT_VERSION {

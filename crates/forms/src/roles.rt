@@ -4,14 +4,14 @@ ghost use Rattle.mathematics.specs.Graph.{is_start, is_end};
 ghost use Rattle.forms.specs.Limits.{room_vertices};
 ghost use Rattle.forms.specs.GraphOf.{graph_of};
 ghost use Rattle.forms.specs.GraphReads.{Reads};
-ghost use Rattle.forms.specs.Roles.{role as roleOf, Roles};
+ghost use Rattle.forms.specs.Roles.{role as role_of, Roles};
 
 use crate::Graph;
 use crate::fields::{vertex_count, vertex_flags};
 
 // A role as a number: 1 for a start, 2 for an end, both added up.
 fn role(start: bool, end: bool) -> u8
-    ensures { result ≡ roleOf start end }
+    ensures { result ≡ role_of start end }
 {
     if start {
         if end { 3 } else { 1 }

@@ -106,7 +106,8 @@ pub fn list_cover(graph: &[u8], answer: &[u8], out: &mut [u8]) -> Listed
     ensures { Lists out.old (listing_of graph.now answer.now) out.new result }
 {
     let verdict = check(graph, answer);
-    if verdict.number != 0 {
+    let is_refused = verdict.number != 0;
+    if is_refused {
         return list_refusal(verdict.number, verdict.place, out);
     }
     if out.len() < cover_length(graph, answer) {
@@ -146,7 +147,8 @@ pub fn list_refusal(number: usize, place: usize, out: &mut [u8]) -> Listed
 pub fn list_inputs(graph: &[u8], answer: &[u8], out: &mut [u8]) -> Listed
     ensures { Lists out.old (inputs_listing graph.now answer.now) out.new result }
 {
-    if graph.len() > LONGEST_INPUT {
+    let is_too_long = graph.len() > LONGEST_INPUT;
+    if is_too_long {
         return list_refusal(1, 0, out);
     }
     if answer.len() <= LONGEST_INPUT {

@@ -252,8 +252,8 @@ module _ (P : Prices) (L : Ordered P) where
           reads_kept = all_reads G.reads;
         }
 
-    pub opening_no_less : (more : P.El) → Le P P.nil more → AsksMore P G (opening_raised P more G)
-    opening_no_less more h =
+    pub opening_raised_lem : (more : P.El) → Le P P.nil more → AsksMore P G (opening_raised P more G)
+    opening_raised_lem more h =
         record {
           opening_no_less = Algebra.le_add_more P L G.opening more h;
           vertices_raised = each_self VertexRaised vertex_kept G.vertices;
@@ -285,7 +285,7 @@ module _ (P : Prices) (L : Ordered P) where
     raised_arc_cost a more h = never_cheaper G (arc_cost_raised P a more G) (arc_cost_raised_lem a more h)
 
     pub raised_opening : (more : P.El) → Le P P.nil more → (x y : P.El) → LowestPrice P G x → LowestPrice P (opening_raised P more G) y → Le P x y
-    raised_opening more h = never_cheaper G (opening_raised P more G) (opening_no_less more h)
+    raised_opening more h = never_cheaper G (opening_raised P more G) (opening_raised_lem more h)
 
     pub added_read : (k : ℕ) (r : List ℕ) (x y : P.El) → LowestPrice P G x → LowestPrice P (read_added k r G) y → Le P x y
     added_read k r = never_cheaper G (read_added k r G) (read_added_lem k r)

@@ -135,7 +135,7 @@ module _ {E : Type 0} (G : Graph E) (rs rs' : List (List ℕ)) (j : Join rs rs')
   )
 
   module _ (A B : Weighted) (W₁ W₂ : List Weighted) (first : Taken A W W₁) (second : Taken B W₁ W₂) (a b p q : List ℕ)
-      (in-A : A.path ≡ (a ++ j.x) ++ (j.o ++ b)) (in-B : B.path ≡ p ++ (j.o ++ (j.y ++ q))) where
+      (in_A : A.path ≡ (a ++ j.x) ++ (j.o ++ b)) (in_B : B.path ≡ p ++ (j.o ++ (j.y ++ q))) where
     abbrev new_a : List ℕ
     new_a = (a ++ j.x) ++ (j.o ++ (j.y ++ q))
 
@@ -154,10 +154,10 @@ module _ {E : Type 0} (G : Graph E) (rs rs' : List (List ℕ)) (j : Join rs rs')
     other_kept k cl cr ml mr h = go (held_by_some k W h)
       where
         by_A : T (holds A.path k) → Kept new k
-        by_A t = in_new k (from_left k j.x j.o a b p (j.y ++ q) (subst (Within k) in-A (holds_within A.path k t)) cl ml)
+        by_A t = in_new k (from_left k j.x j.o a b p (j.y ++ q) (subst (Within k) in_A (holds_within A.path k t)) cl ml)
 
         by_B : T (holds B.path k) → Kept new k
-        by_B t = in_new k (from_right k j.y j.o q (a ++ j.x) p b (subst (Within k) in-B (holds_within B.path k t)) cr mr)
+        by_B t = in_new k (from_right k j.y j.o q (a ++ j.x) p b (subst (Within k) in_B (holds_within B.path k t)) cr mr)
 
         behind : (w : Weighted) → OneOf W₁ w → 1 ≤ w.weight → T (holds w.path k) → Kept new k
         behind w m l t =
@@ -192,8 +192,8 @@ module _ {E : Type 0} (G : Graph E) (rs rs' : List (List ℕ)) (j : Join rs rs')
         let are = cover_paths G rs W c in
         let (pa, are₁) = taken_all (λ w. T (is_path G w.path)) first are in
         let (pb, are₂) = taken_all (λ w. T (is_path G w.path)) second are₁ in
-        let ta = subst (λ (q : List ℕ). T (is_path G q)) in-A pa in
-        let tb = subst (λ (q : List ℕ). T (is_path G q)) in-B pb in (
+        let ta = subst (λ (q : List ℕ). T (is_path G q)) in_A pa in
+        let tb = subst (λ (q : List ℕ). T (is_path G q)) in_B pb in (
           λ h. pa,
           (
             λ h. pb,
@@ -215,7 +215,7 @@ module _ {E : Type 0} (G : Graph E) (rs rs' : List (List ℕ)) (j : Join rs rs')
     new_total : (i : Item) → total i new ≡ total i W
     new_total i =
         let both : through i A.path + through i B.path ≡ through i new_a + through i new_b =
-        rw (in-A, in-B) (through_exchange i (a ++ j.x) j.o b p (j.y ++ q) j.some_o) in
+        rw (in_A, in_B) (through_exchange i (a ++ j.x) j.o b p (j.y ++ q) j.some_o) in
         exchanged_sum A.weight B.weight (through i A.path) (through i B.path) (through i new_a) (through i new_b)
         (total i W₂) some_copies.0 some_copies.1 both ∙
         omega (arith, taken_total i first, taken_total i second)
@@ -250,9 +250,9 @@ module _ {E : Type 0} (G : Graph E) (rs rs' : List (List ℕ)) (j : Join rs rs')
       let (A, m_a, t_a) = held_by_some (left rs rs' j) W hl in
       let (B, m_b, t_b) = held_by_some (right rs rs' j) W hr in
       let (W₁, first) = take_one A W m_a in
-      let in-A = holds_within A.path (left rs rs' j) t_a in
-      let in-B = holds_within B.path (right rs rs' j) t_b in
+      let in_A = holds_within A.path (left rs rs' j) t_a in
+      let in_B = holds_within B.path (right rs rs' j) t_b in
       elim (taken_cases first B m_b) [
-        | inl e ↦ one_path wf A m_a in-A (subst (λ (w : Weighted). Within (right rs rs' j) w.path) e in-B)
-        | inr m ↦ two_paths clear A B W₁ first m in-A in-B
+        | inl e ↦ one_path wf A m_a in_A (subst (λ (w : Weighted). Within (right rs rs' j) w.path) e in_B)
+        | inr m ↦ two_paths clear A B W₁ first m in_A in_B
       ]

@@ -3,7 +3,7 @@
 
 ghost use Rattle.std.specs.Prelude.{◌≡◌, [], ◌+◌, ◌-◌, ◌<◌, ◌≤◌, length, get_or, take, set};
 ghost use Rattle.mathematics.specs.Lists.{holds};
-ghost use Rattle.mathematics.specs.Prepare.{drop_parts, overlap as overlapOf, longest as longestOf, without, join_at, prepare};
+ghost use Rattle.mathematics.specs.Prepare.{drop_parts, overlap as overlap_of, longest as longest_of, without, join_at, prepare};
 ghost use Rattle.reads.specs.ReadTable.{row_at, rows_of, runs, Leaves, held_from, longer_at, longer_from, gone, Marks, meeting, next_at, with_from, join_of, ReadHolds, RowHolds, TableHolds, Place, row_length};
 
 // The size of the table: so many rows, a read each, and so many vertices at the most in a row, which a joined read can have. specs/ReadTable.antt has the same numbers.
@@ -87,7 +87,7 @@ fn is_part(rows: &[[u8; ROW]; ROWS], lens: &[usize; ROWS], i: usize, j: usize) -
 fn overlap(rows: &[[u8; ROW]; ROWS], lens: &[usize; ROWS], i: usize, j: usize) -> usize
     requires read_i { RowHolds rows.now lens.now i }
     requires read_j { RowHolds rows.now lens.now j }
-    ensures { result ≡ overlapOf (row_at rows.now lens.now i) (row_at rows.now lens.now j) }
+    ensures { result ≡ overlap_of (row_at rows.now lens.now i) (row_at rows.now lens.now j) }
 {
     let n = lens[i];
     let m = lens[j];
@@ -272,7 +272,7 @@ fn longest_with(
 // The pair with the longest overlap; of several the lowest i, then the lowest j. None is shared where no two reads overlap.
 fn longest(rows: &[[u8; ROW]; ROWS], lens: &[usize; ROWS], count: usize) -> Meeting
     requires { TableHolds rows.now lens.now count }
-    ensures { meeting result ≡ longestOf (rows_of rows.now lens.now count) }
+    ensures { meeting result ≡ longest_of (rows_of rows.now lens.now count) }
 {
     let mut found = Meeting {
         shared: 0,
@@ -359,7 +359,7 @@ fn join_at(
     m: Meeting,
 ) -> usize
     requires table { TableHolds rows.old lens.old count }
-    requires longest { meeting m ≡ longestOf (rows_of rows.old lens.old count) }
+    requires longest { meeting m ≡ longest_of (rows_of rows.old lens.old count) }
     requires some { 1 ≤ m.shared }
     ensures left { Leaves rows.new lens.new result (join_at (meeting m) (rows_of rows.old lens.old count)) }
     ensures fewer { result + 1 ≡ count }

@@ -5,8 +5,8 @@ use borrow.Author.Rules.{rules}
 use Rattle.listing.proofs.Writing.{lists_as, inputs_long_graph, inputs_short, inputs_bad_graph, inputs_long_answer}
 use Rattle.listing.proofs.list_inputs.Goals as goal
 
-pub returns-then-graph-gt-LONGEST_INPUT : goal.returns-then-graph-gt-LONGEST_INPUT
-returns-then-graph-gt-LONGEST_INPUT c = lists_as (inputs_long_graph _ _ (omega arith)) c.list_refusal.ensures.lists
+pub returns-then-is_too_long : goal.returns-then-is_too_long
+returns-then-is_too_long c = lists_as (inputs_long_graph _ _ (omega arith)) c.list_refusal.ensures.lists
 
 pub returns-then-answer-le-LONGEST_INPUT : goal.returns-then-answer-le-LONGEST_INPUT
 returns-then-answer-le-LONGEST_INPUT c = lists_as (inputs_short _ _ (omega arith) (omega arith)) c.list_cover.ensures

@@ -20,16 +20,16 @@ reach_ends-requires c = (reads_then _ c.args.out.now _ c.read_graph-read.ensures
 pub first_lacking-lacking-requires : goal.first_lacking-lacking-requires
 first_lacking-lacking-requires c = record { reads = reads_then _ c.args.out.now _ c.read_graph-read.ensures c.if-read-ne0.false; starts = c.reach_from_starts.ensures; ends = c.reach_ends.ensures }
 
-pub returns-then-refused-ne0 : goal.returns-then-refused-ne0
-returns-then-refused-ne0 c = promise_refused _ _ _ c.read_graph-read.ensures c.if-read-ne0.false _ c.first_lacking-lacking.ensures _ c.first_refusal-refused.ensures c.if-refused-ne0.true
+pub returns-then-is_refused : goal.returns-then-is_refused
+returns-then-is_refused c = promise_refused _ _ _ c.read_graph-read.ensures c.if-read-ne0.false _ c.first_lacking-lacking.ensures _ c.first_refusal-refused.ensures c.if-is_refused.true
 
 pub answer-written-requires : goal.answer-written-requires
 answer-written-requires c =
-    let o = c.args.out.now in let e = c.read_graph-read.ensures in let z = c.if-read-ne0.false in let l = c.first_lacking-lacking.ensures in let f = c.first_refusal-refused.ensures in let n = c.if-refused-ne0.false in
+    let o = c.args.out.now in let e = c.read_graph-read.ensures in let z = c.if-read-ne0.false in let l = c.first_lacking-lacking.ensures in let f = c.first_refusal-refused.ensures in let n = c.if-is_refused.false in
     record {
       reachable = (record { reads = reads_then _ o _ e z; starts = c.reach_from_starts.ensures; ends = c.reach_ends.ensures }, c.roles-roles.ensures, coverable_then _ o _ e z _ l _ f n, graph_reads _ o _ e z);
       s_in_bounds = room_then _ o _ e z _ l _ f n;
     }
 
 pub returns : goal.returns
-returns c = promise_built _ _ _ c.read_graph-read.ensures c.if-read-ne0.false _ c.first_lacking-lacking.ensures _ c.first_refusal-refused.ensures c.if-refused-ne0.false _ _ c.answer-written.ensures
+returns c = promise_built _ _ _ c.read_graph-read.ensures c.if-read-ne0.false _ c.first_lacking-lacking.ensures _ c.first_refusal-refused.ensures c.if-is_refused.false _ _ c.answer-written.ensures
