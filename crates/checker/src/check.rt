@@ -48,7 +48,8 @@ fn certificate_verdict(
     if slacks.number != 0 {
         return slacks;
     }
-    let bound_differs = bound_of(s, first, t) != stated;
+    let shown = bound_of(s, first, t);
+    let bound_differs = shown != stated;
     if bound_differs {
         return Verdict::new(22, 0);
     }

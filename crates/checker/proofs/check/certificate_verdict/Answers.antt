@@ -14,11 +14,11 @@ returns-then-price_differs c = c.new.ensures ∙ price_differs _ _ _ _ _ _ c.req
 pub returns-then-slacks-ne0 : goal.returns-then-slacks-ne0
 returns-then-slacks-ne0 c = slack_below _ _ _ _ _ _ c.requires.tallied.0 c.unmet_verdict-unmet.ensures (search rules) (c.if-price_differs.false ∙ c.requires.tallied.1) c.slacks_verdict-slacks.ensures (search rules)
 
-pub bound_of-requires : goal.bound_of-requires
-bound_of-requires c = (c.requires.reads.0, c.requires.reads.1, c.requires.reads.3, none_below _ _ (ap (λ (v : Verdict). v.number) (sym c.slacks_verdict-slacks.ensures) ∙ c.if-slacks-ne0.false))
+pub bound_of-shown-requires : goal.bound_of-shown-requires
+bound_of-shown-requires c = (c.requires.reads.0, c.requires.reads.1, c.requires.reads.3, none_below _ _ (ap (λ (v : Verdict). v.number) (sym c.slacks_verdict-slacks.ensures) ∙ c.if-slacks-ne0.false))
 
 pub returns-then-bound_differs : goal.returns-then-bound_differs
-returns-then-bound_differs c = c.new-then-bound_differs.ensures ∙ bound_differs _ _ _ _ _ _ c.requires.tallied.0 c.unmet_verdict-unmet.ensures (search rules) (c.if-price_differs.false ∙ c.requires.tallied.1) c.slacks_verdict-slacks.ensures (search rules) c.bound_of.ensures (λ e. c.if-bound_differs.true (e ∙ sym c.requires.tallied.1))
+returns-then-bound_differs c = c.new-then-bound_differs.ensures ∙ bound_differs _ _ _ _ _ _ c.requires.tallied.0 c.unmet_verdict-unmet.ensures (search rules) (c.if-price_differs.false ∙ c.requires.tallied.1) c.slacks_verdict-slacks.ensures (search rules) c.bound_of-shown.ensures (λ e. c.if-bound_differs.true (e ∙ sym c.requires.tallied.1))
 
 pub returns : goal.returns
-returns c = c.new-2.ensures ∙ all_certified _ _ _ _ _ _ c.requires.tallied.0 c.unmet_verdict-unmet.ensures (search rules) (c.if-price_differs.false ∙ c.requires.tallied.1) c.slacks_verdict-slacks.ensures (search rules) c.bound_of.ensures (c.if-bound_differs.false ∙ c.requires.tallied.1)
+returns c = c.new-2.ensures ∙ all_certified _ _ _ _ _ _ c.requires.tallied.0 c.unmet_verdict-unmet.ensures (search rules) (c.if-price_differs.false ∙ c.requires.tallied.1) c.slacks_verdict-slacks.ensures (search rules) c.bound_of-shown.ensures (c.if-bound_differs.false ∙ c.requires.tallied.1)
