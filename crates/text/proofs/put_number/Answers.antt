@@ -41,9 +41,6 @@ bounds-digits-first-2 c = omega arith
 pub slice_bounds-put_text-count : goal.slice_bounds-put_text-count
 slice_bounds-put_text-count c = omega arith
 
-{- GONE part-put-text-end : tie.Need-slice-bounds-put-text-end invariant-loop decreases-loop
-part-put-text-end c = simp length-set (omega arith) -}
-
 pub put_text-requires : goal.put_text-requires
 put_text-requires c = rw (digits_end c.loop-rest.invariant (omega arith)) c.requires
 
