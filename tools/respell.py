@@ -6,7 +6,7 @@ usage: respell.py [--check] [ROOT]
 It was run once, at the top of the repository, right after the toolchain's own respelling (docs/PORT.md). It turns the names that files of specs/ and of
 laws in proofs/ declare, and the variables beside them, wherever they stand in crates/: in .antt files and in the clauses of .rt files.
 Names of Rust functions, types and modules stay; so do the names that Rattle makes of the code, which only Proof.antt files cite.
-Two names that would fall together in one file are given apart in APART, or it stops and lists them.
+Names that fall together in one file are listed; those that had to be told apart stand in APART. A definition may meet the function that computes it.
 """
 
 import collections
@@ -37,7 +37,6 @@ APART = {
     "getD-among": "get_or_among",
     "getD-without": "get_or_without",
 }
-
 
 # A law's name that a Rust function has too.
 ONLY_IN_LAWS = {"read_length"}

@@ -34,7 +34,7 @@ from tally import holds_that as counted
 
 LONGEST_INPUT = 65_536
 
-# Each program that opens files, by the library's `std::fs`, and the files that it reads.
+# Each program that can open files, by the library's `std::fs` or the runtime's `Files`, and the files that it reads.
 READS_FILES = {"recheck": ("graph.bin", "cover.bin")}
 
 
@@ -150,7 +150,7 @@ for what, g in (("nothing", b""), ("12 bytes", graph[:12]), ("a cut graph", grap
 # Each file is read once, and what is listed comes from the bytes held.
 for path in sorted(glob.glob(os.path.join(ROOT, "crates", "*", "src", "*.rt"))):
     with open(path) as f:
-        if re.search(r"\bfs\b", f.read()):
+        if re.search(r"\b(fs|Files|open_file)\b", f.read()):
             program = path.split(os.sep)[-3]
             holds_that(program in READS_FILES, True, f"{program} can open files: its readings are tried")
 pairs = [(encode_graph(g), encode_answer(a)) for g, a in ((D, D_ANSWER), (D_WITH_3, D_WITH_3_ANSWER), (X, X_ANSWER))]
