@@ -18,7 +18,8 @@ ROOT = os.path.abspath(os.path.join(os.path.dirname(os.path.abspath(__file__)), 
 
 # What a builder's body ends with, and all of a right one.
 GIVE = """
-    BuiltForm { number: built.number as u64, place: built.place as u64, written: built.written as u64 }
+    let Refusal { number, place } = told(built);
+    BuiltForm { number, place, written: built.unwrap_or(0) as u64 }
 """
 BUILD = """
     let built = builder::build::build(graph, out);
@@ -26,49 +27,45 @@ BUILD = """
 
 # What a hand-out's body ends with.
 PART = """
-    HandedOutPart { number: found.number as u64, place: found.place as u64, offset: found.offset as u64, length: found.length as u64 }
+    let Refusal { number, place } = told(found);
+    let part = found.unwrap_or(PathPart { offset: 0, length: 0 });
+    HandedOutPart { number, place, offset: part.offset as u64, length: part.length as u64 }
 """
 
 # What is wrong, the call, and its new body, with the functions that this needs behind it.
 WRONG = [
     ("a reader that gives 6 for 7", "read_graph_form", """
-    let verdict = checker::reader::read_graph(graph);
-    let place = verdict.place as u64;
-    if verdict.number == 7 {
+    let Refusal { number, place } = told(checker::reader::read_graph(graph));
+    if number == 7 {
         return Refusal { number: 6, place };
     }
-    Refusal { number: verdict.number as u64, place }
+    Refusal { number, place }
 """),
     ("a checker that refuses always", "check_answer_form", """
     Refusal { number: 11, place: 0 }
 """),
     ("a checker that tests slacks but does not compare bound and price", "check_answer_form", """
-    let verdict = checker::check::check(graph, answer);
-    let place = verdict.place as u64;
-    if verdict.number == 22 {
+    let Refusal { number, place } = told(checker::check::check(graph, answer));
+    if number == 22 {
         return Refusal { number: 0, place };
     }
-    Refusal { number: verdict.number as u64, place }
+    Refusal { number, place }
 """),
     ("a checker that gives the place of 19 among the demands alone", "check_answer_form", """
-    let verdict = checker::check::check(graph, answer);
-    let number = verdict.number as u64;
-    if number == 19 && verdict.place > 319 {
+    let Refusal { number, place } = told(checker::check::check(graph, answer));
+    if number == 19 && place > 319 {
         return Refusal { number, place: 319 };
     }
-    Refusal { number, place: verdict.place as u64 }
+    Refusal { number, place }
 """),
     ("a hand-out that always gives the first path", "hand_out_path", """
     let found = checker::check::find_path(graph, answer, 0);
 """ + PART),
     ("a hand-out of a single vertex from another byte of the same value", "hand_out_path", """
     let found = checker::check::find_path(graph, answer, k as usize);
-    let at = found.offset;
-    if found.length == 1 {
-        if at < answer.len() {
-            if answer[0] == answer[at] {
-                return HandedOutPart { number: 0, place: 0, offset: 0, length: 1 };
-            }
+    if let Ok(part) = found {
+        if part.length == 1 && part.offset < answer.len() && answer[0] == answer[part.offset] {
+            return HandedOutPart { number: 0, place: 0, offset: 0, length: 1 };
         }
     }
 """ + PART),
@@ -85,16 +82,17 @@ WRONG = [
 """ + GIVE),
     ("a builder that says one byte less than it wrote", "build_answer_form", """
     let built = builder::build::build(graph, out);
-    if built.written > 0 {
-        return BuiltForm { number: 0, place: 0, written: built.written as u64 - 1 };
+    let written = built.unwrap_or(0) as u64;
+    if written > 0 {
+        return BuiltForm { number: 0, place: 0, written: written - 1 };
     }
 """ + GIVE),
     # The answer's graph has one vertex, start and end, of demand 1; refusals are right.
     ("a builder that gives another graph's answer", "build_answer_form", r"""
     let mut trial = [0; 32543];
-    let first = builder::build::build(graph, &mut trial);
+    let first = told(builder::build::build(graph, &mut trial));
     if first.number != 0 {
-        return BuiltForm { number: first.number as u64, place: first.place as u64, written: 0 };
+        return BuiltForm { number: first.number, place: first.place, written: 0 };
     }
     let built = builder::build::build(b"\x00\x00\x00\x12\x01\x01\x00\x00\x00\x00\x00\x00\x01\x03\x00\x00\x00\x01", out);
 """ + GIVE),

@@ -9,12 +9,10 @@ use lib.Seq.{length-take-le}
 use borrow.Author.Tests.{eq-eqb, ne_eqb}
 use Rattle.forms.specs.declared.Verdict.{Verdict}
 use Rattle.forms.specs.GraphFaults.{refusal}
-use Rattle.builder.specs.declared.Built.{Built}
-use Rattle.builder.specs.Build.{BuildPromise}
+use Rattle.builder.specs.Build.{Built, BuildPromise}
 use Rattle.text.proofs.Writing.{written_nothing}
-use Rattle.listing.specs.declared.Listed.{Listed}
 use Rattle.listing.specs.Lines.{refused_line}
-use Rattle.listing.specs.Listing.{longest_input, answer_lent, input_verdict, longest_listing, Lists}
+use Rattle.listing.specs.Listing.{longest_input, answer_lent, input_verdict, longest_listing, Listed, Lists}
 use Rattle.listing.proofs.Writing.{listed_whole}
 use Rattle.listing.proofs.Longest.{refused_few}
 use Rattle.listing.proofs.Inputs.{input_too_long, input_built}
@@ -34,9 +32,9 @@ refuses {out = out} v e n long l =
     }
 
 -- the graph is too long
-pub refuses_long : {s out err err' : List ℕ} {r : Listed} → longest_input < length s → length err ≡ longest_listing → Lists err (refused_line 1 0) err' r →
+pub refuses_long : {s out err err' : List ℕ} {number : ℕ} {r : Listed} → longest_input < length s → length err ≡ longest_listing → number ≡ 1 → Lists err (refused_line number 0) err' r →
     Answered s out out err err' (record { form = 0; line = r.written })
-refuses_long {s} h = refuses (refusal 1 0) (input_too_long s h) (λ e. absurd (omega arith))
+refuses_long {s} h long is_one l = refuses (refusal 1 0) (input_too_long s h) (λ e. absurd (omega arith)) long (rw is_one at l)
 
 module _ {s out out' : List ℕ} {b : Built} (short : length s ≤ longest_input) (lent : length out ≡ answer_lent) (p : BuildPromise s out out' b) where
   verdict : refusal b.number b.place ≡ input_verdict s

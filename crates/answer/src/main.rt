@@ -5,7 +5,7 @@
 ghost use Rattle.answer.specs.Answered.{Answered};
 
 use builder::build::build;
-use checker::Answer;
+use forms::{Answer, Fault};
 use listing::{LONGEST_INPUT, LONGEST_LISTING, list_refusal};
 
 // Standard input, output and error, by the numbers of their files.
@@ -16,7 +16,7 @@ const STDOUT_FILENO: i32 = 1;
 const STDERR_FILENO: i32 = 2;
 
 // How many bytes go to standard output, and how many to standard error.
-#[derive(Drop)]
+#[derive(Clone, Copy, Debug, PartialEq, Eq)]
 struct Written {
     form: usize,
     line: usize,
@@ -27,23 +27,15 @@ fn answer(graph: &[u8], out: &mut [u8; Answer::LONGEST], err: &mut [u8; LONGEST_
     ensures { Answered graph.now out.old out.new err.old err.new result }
 {
     if graph.len() > LONGEST_INPUT {
-        let refused = list_refusal(1, 0, err);
-        return Written {
-            form: 0,
-            line: refused.written,
-        };
+        let line = list_refusal(Fault::GraphLength.number(), 0, err).unwrap_or(0);
+        return Written { form: 0, line };
     }
-    let built = build(graph, out);
-    if built.number != 0 {
-        let refused = list_refusal(built.number, built.place, err);
-        return Written {
-            form: 0,
-            line: refused.written,
-        };
-    }
-    Written {
-        form: built.written,
-        line: 0,
+    match build(graph, out) {
+        Ok(form) => Written { form, line: 0 },
+        Err(refused) => {
+            let line = list_refusal(refused.fault.number(), refused.place, err).unwrap_or(0);
+            Written { form: 0, line }
+        }
     }
 }
 

@@ -8,11 +8,9 @@ use lib.ListN.{length, take}
 use borrow.Author.Tests.{eq-eqb, ne_eqb}
 use Rattle.forms.specs.declared.Verdict.{Verdict}
 use Rattle.forms.specs.GraphFaults.{refusal}
-use Rattle.builder.specs.declared.Built.{Built}
-use Rattle.builder.specs.Build.{BuildPromise}
-use Rattle.listing.specs.declared.Listed.{Listed}
+use Rattle.builder.specs.Build.{Built, BuildPromise}
 use Rattle.listing.specs.Lines.{refused_line}
-use Rattle.listing.specs.Listing.{listing_of, longest_input, answer_lent, input_verdict, longest_listing, Lists}
+use Rattle.listing.specs.Listing.{listing_of, longest_input, answer_lent, input_verdict, longest_listing, Listed, Lists}
 use Rattle.listing.proofs.Writing.{listed_whole}
 use Rattle.listing.proofs.Longest.{refused_few, listing_few}
 use Rattle.listing.proofs.Inputs.{input_too_long, input_built}
@@ -30,9 +28,9 @@ refuses v e n long l =
     }
 
 -- the graph is too long
-pub lists_too_long : {s before after : List ℕ} {r : Listed} → length before ≡ longest_listing → longest_input < length s → Lists before (refused_line 1 0) after r →
+pub lists_too_long : {s before after : List ℕ} {number : ℕ} {r : Listed} → length before ≡ longest_listing → longest_input < length s → number ≡ 1 → Lists before (refused_line number 0) after r →
     Assembled s before after r.written
-lists_too_long {s} long h = refuses (refusal 1 0) (input_too_long s h) (λ e. absurd (omega arith)) long
+lists_too_long {s} long h is_one l = refuses (refusal 1 0) (input_too_long s h) (λ e. absurd (omega arith)) long (rw is_one at l)
 
 module _ {s lent held : List ℕ} {b : Built} (short : length s ≤ longest_input) (asked : length lent ≡ answer_lent) (p : BuildPromise s lent held b) where
   verdict : refusal b.number b.place ≡ input_verdict s

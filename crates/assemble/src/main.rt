@@ -4,7 +4,7 @@
 ghost use Rattle.assemble.specs.Assemble.{Assembled};
 
 use builder::build::build;
-use checker::Answer;
+use forms::{Answer, Fault};
 use listing::{LONGEST_INPUT, LONGEST_LISTING, list_cover, list_refusal};
 
 // Standard input and output, by the numbers of their files.
@@ -17,18 +17,13 @@ fn assemble(graph: &[u8], text: &mut [u8; LONGEST_LISTING]) -> usize
     ensures { Assembled graph.now text.old text.new result }
 {
     if graph.len() > LONGEST_INPUT {
-        let refused = list_refusal(1, 0, text);
-        return refused.written;
+        return list_refusal(Fault::GraphLength.number(), 0, text).unwrap_or(0);
     }
     let mut answer = [0u8; Answer::LONGEST];
-    let built = build(graph, &mut answer);
-    if built.number != 0 {
-        let refused = list_refusal(built.number, built.place, text);
-        return refused.written;
+    match build(graph, &mut answer) {
+        Ok(length) => list_cover(graph, &answer[..length], text).unwrap_or(0),
+        Err(refused) => list_refusal(refused.fault.number(), refused.place, text).unwrap_or(0),
     }
-    let length = built.written;
-    let listed = list_cover(graph, &answer[..length], text);
-    listed.written
 }
 
 fn main() {

@@ -15,8 +15,7 @@ use Rattle.forms.specs.GraphFaults.{graph_verdict}
 use Rattle.forms.specs.AnswerForm.{cover_of}
 use Rattle.forms.proofs.GraphFacts.{graph_well_formed}
 use Rattle.checker.proofs.GraphReads.{number_zero_iff_reads, number_to_seven}
-use Rattle.builder.specs.declared.Built.{Built}
-use Rattle.builder.specs.Build.{BuildPromise}
+use Rattle.builder.specs.Build.{Built, BuildPromise}
 use Rattle.builder.specs.Results.{Alike}
 use Rattle.network.proofs.NetworkLaws.{same_or_not}
 use Rattle.builder.proofs.Coverable.{cover_number, cover_place_zero}

@@ -1,10 +1,7 @@
 -- Laws of the final marks and of the price: what is reckoned arc after arc comes to the price of the loads, and never passes it.
-use Prim.Native.Nat.{ℕ, ◌+◌, ◌*◌, ◌-◌, ◌≤◌, ◌<◌}
-use native.Mathlib.Omega.{arith}
-use native.Mathlib.Numerals.{add-one}
-use mathlib.Core.Path.{◌≡◌, ap, ap₂, ◌∙◌, sym}
-use mathlib.Core.List.{List}
-use mathlib.Core.Bool.{Bool, cond, ◌&&◌}
+use Rattle.std.proofs.Common.{ℕ, zero, suc, ◌+◌, ◌*◌, ◌-◌, ◌≤◌, ◌<◌, ◌≡◌, refl, sym, ap, ap₂, ◌∙◌, List, length, take, drop, sum, Bool, cond, ◌&&◌, arith, add-one, length-drop}
+use Rattle.std.proofs.lemmas.List.{get_or-drop}
+use Rattle.std.proofs.lemmas.List.Sums.{sum_by_more}
 use Rattle.mathematics.specs.Reach.{from_start, to_end}
 use Rattle.forms.specs.GraphForm.{vertex_count, arc_count, opening_price, arc_at, arc_cost}
 use Rattle.forms.specs.GraphOf.{graph_of}
@@ -19,31 +16,44 @@ pub held_is : (s mark : List ℕ) (side : ℕ → ℕ) (v : ℕ) (reached reachi
 unfolding held_mark
 held_is s mark side v reached reaching x e f q = q ∙ ap₂ (λ a b. cond (a && b) (nth mark (side v)) (cond a (base - span) highest)) e f
 
--- one more term of a sum
-pub sum_more : (n : ℕ) (f : ℕ → ℕ) (x y : ℕ) → x ≡ sum_to n f → y ≡ f n → x + y ≡ sum_to (n + 1) f
-sum_more n f x y e q = ap₂ (λ (a b : ℕ). a + b) e q ∙ ap (λ k. sum_to k f) (sym (add-one n))
+-- the sum of a part of the loads
+sum_part : (xs : List ℕ) (first n : ℕ) → first + n ≤ length xs → sum (take n (drop first xs)) ≡ sum_to n (λ k. nth xs (first + k))
+sum_part xs first zero h = refl
+sum_part xs first (suc n) h =
+    let room : n < length (drop first xs) = omega (arith, length-drop first xs) in
+    ap (λ k. sum (take k (drop first xs))) (sym (add-one n)) ∙ sum_by_more (λ x. x) (drop first xs) n 0 room ∙
+    ap₂ (λ (x y : ℕ). x + y) (sum_part xs first n (omega arith)) (get_or-drop first xs n 0)
 
 -- the price of the loads, arc after arc
 module _ (s full arc_reads : List ℕ) (P : Priced s full arc_reads) (n m : ℕ) (en : n ≡ vertex_count s) (em : m ≡ arc_count s) where
   abbrev before : ℕ → ℕ
   before a = copies_of s full * opening_price s + sum_to a (arc_worth s full)
 
-  copies_same : sum_to n (λ k. nth full (n + m + k)) ≡ copies_of s full
-  copies_same = ap₂ (λ x y. sum_to x (λ k. nth full (x + y + k))) en em
-
-  pub copies_asked : (n + m + n ≤ most_edges) × (sum_to n (λ k. nth full (n + m + k)) ≤ most_moved)
-  copies_asked = let h = P.reads.arcs.header in (omega (arith, h.vertices_room, h.arcs_room), omega (arith, copies_same, P.few))
-
   -- no more is reckoned than the price
   within : (a : ℕ) → a ≤ arc_count s → before a ≤ most_price
   unfolding price_from
   within a h = omega (arith, P.low, sum_up a (arc_count s) (arc_worth s full) h)
 
-  pub first_price : (r o : ℕ) → r ≡ sum_to n (λ k. nth full (n + m + k)) → o ≡ opening_price s → r * o ≡ copies_of s full * opening_price s + sum_to 0 (arc_worth s full)
-  first_price r o e q = ap₂ (λ (x y : ℕ). x * y) (e ∙ copies_same) q ∙ (let z : copies_of s full * opening_price s ≡ copies_of s full * opening_price s + 0 = omega arith in z)
+  -- what lies on the openings, which stand behind the vertices and the arcs
+  abbrev on_openings : ℕ
+  on_openings = sum (take (n + m + n - (n + m)) (drop (n + m) full))
 
-  pub first_fits : (r o : ℕ) → r ≡ sum_to n (λ k. nth full (n + m + k)) → o ≡ opening_price s → r * o ≤ most_price
-  first_fits r o e q = omega (arith, first_price r o e q, within 0 (omega arith))
+  module _ (long : length full ≡ most_edges) where
+    copies_same : on_openings ≡ copies_of s full
+    copies_same =
+        let h = P.reads.arcs.header in
+        let e : n + m + n - (n + m) ≡ n = omega arith in
+        ap (λ k. sum (take k (drop (n + m) full))) e ∙ sum_part full (n + m) n (omega (arith, h.vertices_room, h.arcs_room)) ∙
+        ap₂ (λ x y. sum_to x (λ k. nth full (x + y + k))) en em
+
+    pub copies_asked : on_openings ≤ most_moved
+    copies_asked = omega (arith, copies_same, P.few)
+
+    pub first_price : (r o : ℕ) → r ≡ on_openings → o ≡ opening_price s → r * o ≡ copies_of s full * opening_price s + sum_to 0 (arc_worth s full)
+    first_price r o e q = ap₂ (λ (x y : ℕ). x * y) (e ∙ copies_same) q ∙ (let z : copies_of s full * opening_price s ≡ copies_of s full * opening_price s + 0 = omega arith in z)
+
+    pub first_fits : (r o : ℕ) → r ≡ on_openings → o ≡ opening_price s → r * o ≤ most_price
+    first_fits r o e q = omega (arith, first_price r o e q, within 0 (omega arith))
 
   module _ (a : ℕ) (h : a < m) where
     pub total_fits : nth full (n + (m - (a + 1))) + nth arc_reads a ≤ most_through

@@ -8,7 +8,7 @@ use mathlib.Core.List.{List, [], ◌∷◌, ◌++◌}
 use mathlib.Core.Logic.{◌⊎◌, inl, inr}
 use lib.Dec.{T}
 use lib.IntN.{ℤ, sub_ℕ}
-use lib.ListN.{length, get_or, take, drop}
+use lib.ListN.{length, take, drop}
 use lib.Seq.{length-take-le}
 use Rattle.mathematics.specs.Lists.{All}
 use Rattle.mathematics.specs.Graph.{linked, is_path}
@@ -35,7 +35,8 @@ use Rattle.checker.proofs.Inside.{linked_inside, path_inside}
 use Rattle.network.specs.Network.{nth, sum_to, base, span, most_moved, highest}
 use Rattle.paths.specs.Slots.{prepared_of, across_slot, copies_of}
 use Rattle.wiring.specs.Lay.{ArcsCounted}
-use Rattle.paths.specs.Peel.{collected_at, collected, PathTable, Peeled}
+use Rattle.paths.specs.declared.collect.Paths.{Paths}
+use Rattle.paths.specs.Peel.{path_at, collected_at, collected, PathTable, Peeled}
 use Rattle.builder.specs.Finish.{Flowed, arc_worth, price_from, held_mark, final_marks, MarksHeld, Priced, Answered, most_through, most_price}
 use Rattle.reads.specs.ReadTable.{row_length, table_rows}
 use Rattle.forms.specs.Limits.{max_cost}
@@ -128,29 +129,28 @@ weight_below f (suc k) i j h l = pick (SlotLaws.first_or_later i j h) (λ g. wei
     pick (inl e) more = omega (arith, ap (λ x. (f x).weight) e)
     pick (inr g) more = omega (arith, more g)
 
-module _ (s : List ℕ) (right : Reads s) (full : List ℕ) (rows : List (List ℕ)) (lens weights : List ℕ) (count : ℕ) (table : PathTable rows lens weights count)
-    (taken : Peeled s full (collected rows lens weights count)) where
+module _ (s : List ℕ) (right : Reads s) (full : List ℕ) (table : Paths) (rows : PathTable table) (taken : Peeled s full (collected table)) where
   -- the path in a row has no more vertices than the graph
-  path_short : (k : ℕ) → k < count → nth lens k ≤ max_path_length s
+  path_short : (k : ℕ) → k < table.count → (path_at table k).size ≤ max_path_length s
   unfolding collected
   path_short k h =
-      let p : List ℕ = (collected_at rows lens weights k).path in
-      let long : length p ≡ nth lens k = length-take-le (nth lens k) (get_or rows k []) (omega (arith, table.wide k h, table.fit k h)) in
-      let is_a_path : T (is_path (graph_of s) p) = all_untabulate (collected_at rows lens weights) (λ w. T (is_path (graph_of s) w.path)) count 0 taken.are_paths k (omega arith) (omega arith) in
+      let p : List ℕ = (collected_at table k).path in
+      let long : length p ≡ (path_at table k).size = length-take-le (path_at table k).size (path_at table k).row (omega (arith, rows.wide k h, rows.fit k h)) in
+      let is_a_path : T (is_path (graph_of s) p) = all_untabulate (collected_at table) (λ w. T (is_path (graph_of s) w.path)) table.count 0 taken.are_paths k (omega arith) (omega arith) in
       let inside = path_inside (graph_of s) (graph_well_formed s right) p is_a_path in
       omega (arith, inside.2, long, (graph_within s right).few_vertices, path_length_limit s)
 
-  pub paths_fit : copies_of s full ≤ most_moved → PathsFit s rows lens weights count
+  pub paths_fit : copies_of s full ≤ most_moved → PathsFit s table
   unfolding collected
   paths_fit few =
       record {
         header = right.arcs.header;
-        few = omega (arith, taken.few, collected_length rows lens weights count, slots_few s right);
-        tall = table.tall;
-        wide = table.wide;
+        few = omega (arith, taken.few, collected_length table, slots_few s right);
+        tall = rows.tall;
+        wide = rows.wide;
         short = path_short;
         light = λ k h.
-            omega (arith, weight_below (collected_at rows lens weights) count 0 k (omega arith) (omega arith), taken.copies ∙ SlotLaws.opens_worth s full);
+            omega (arith, weight_below (collected_at table) table.count 0 k (omega arith) (omega arith), taken.copies ∙ SlotLaws.opens_worth s full);
       }
 
 -- ---- what is written is accepted

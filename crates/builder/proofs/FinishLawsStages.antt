@@ -3,7 +3,7 @@ use Prim.Native.Nat.{ℕ, zero, suc, ◌+◌, ◌*◌, ◌≤◌, ◌<◌}
 use native.Mathlib.Omega.{arith}
 use mathlib.Core.Path.{◌≡◌, refl, sym, ap, subst, subst₂, ◌∙◌}
 use mathlib.Core.List.{List}
-use mathlib.Core.Bool.{Bool, false, cond}
+use mathlib.Core.Bool.{Bool, cond}
 use mathlib.Core.Logic.{⊎_elim}
 use borrow.Author.Tests.{eq-eqb, ne_eqb}
 use lib.Dec.{eqb}
@@ -11,7 +11,7 @@ use lib.ListN.{length, set, replicate, length-set, length-replicate, get_or-repl
 use lib.Seq.{get_or-set_same, get_or-set_other}
 use Rattle.mathematics.specs.Exists.{Coverable}
 use Rattle.mathematics.specs.Prepare.{prepare}
-use Rattle.forms.specs.GraphForm.{vertex_count, arc_count}
+use Rattle.forms.specs.GraphForm.{vertex_count}
 use Rattle.forms.specs.GraphOf.{graph_of}
 use Rattle.forms.specs.GraphReads.{Reads}
 use Rattle.reads.specs.ReadTable.{rows_of, Leaves, table_rows}
@@ -22,7 +22,7 @@ use Rattle.paths.specs.Slots.{prepared_of, plain_slots, all_slots}
 use Rattle.wiring.specs.Lay.{EdgesLaid, LoadsLaid, Balanced}
 use Rattle.paths.specs.Peel.{opens_at, worth_of, Ready}
 use Rattle.builder.specs.Finish.{Added, Loaded, Flowed}
-use Rattle.builder.specs.Stages.{ReadsReady, Layable, Blank, NetworkLaid, OneAdded, dropped, joined, Adding, AtBase}
+use Rattle.builder.specs.Stages.{ReadsReady, Layable, NetworkLaid, OneAdded, dropped, joined, Adding, AtBase}
 use Rattle.forms.specs.Limits.{room_vertices, room_arcs, max_demand}
 use Rattle.network.proofs.NetworkLaws.{same_or_not}
 use Rattle.wiring.proofs.Shape.{shape_of_graph, ends_live, first_loads_in_use, loads_low, summable, balance_sums, ready_to_carry}
@@ -57,21 +57,6 @@ blank_counts s =
       arcs_long = length-replicate {A = ℕ} room_arcs 0;
       vertices = λ v h. omega (arith, zeros room_vertices v);
       arcs = λ a h. omega (arith, zeros room_arcs a);
-    }
-
-pub blank : (from to full : List ℕ) → length from ≡ most_edges → length to ≡ most_edges → length full ≡ most_edges →
-    Blank from to (replicate most_edges 0) full (replicate most_nodes false) (replicate most_nodes 0) (replicate most_nodes 0)
-blank from to full a b c =
-    record {
-      from_long = a;
-      to_long = b;
-      cost_long = length-replicate {A = ℕ} most_edges 0;
-      full_long = c;
-      live_long = length-replicate {A = Bool} most_nodes false;
-      surplus_long = length-replicate {A = ℕ} most_nodes 0;
-      deficit_long = length-replicate {A = ℕ} most_nodes 0;
-      no_surplus = zeros most_nodes;
-      no_deficit = zeros most_nodes;
     }
 
 pub all_base : AtBase (replicate most_nodes base)
@@ -142,21 +127,18 @@ edges_none s from to cost a b c =
 pub loads_none : (s load : List ℕ) → length load ≡ most_edges → LoadsLaid s 0 load
 loads_none s load a = record { long = a; is = λ e h. absurd (omega arith) }
 
--- the numbers of nodes and edges, as the code reckons them
-module _ (s : List ℕ) (n m count : ℕ) (en : n ≡ vertex_count s) (em : m ≡ arc_count s) (ec : count ≡ length (prepared_of s)) where
-  nodes_are : 2 * n + 1 ≡ 2 * vertex_count s + 1
-  nodes_are = omega arith
-
-  edges_are : 3 * n + m + count ≡ all_slots s
+-- the numbers of nodes and edges, as the network has them
+module _ (s : List ℕ) (N E count : ℕ) (en : N ≡ 2 * vertex_count s + 1) (ee : E ≡ plain_slots s) (ec : count ≡ length (prepared_of s)) where
+  edges_are : E + count ≡ all_slots s
   edges_are = omega arith
 
   pub laid_summable : Reads s → Coverable (graph_of s) → (from to cost first : List ℕ) → EdgesLaid s (all_slots s) from to cost → LoadsLaid s (all_slots s) first →
-      Summable (2 * n + 1) (3 * n + m + count) from to first
-  laid_summable r c from to cost first E F = rw (nodes_are, edges_are) (summable s r c from to cost first E F)
+      Summable N (E + count) from to first
+  laid_summable r c from to cost first D F = rw (en, edges_are) (summable s r c from to cost first D F)
 
-  pub laid_balance : (from to first surplus deficit : List ℕ) → Balanced (2 * n + 1) (3 * n + m + count) from to first surplus deficit →
+  pub laid_balance : (from to first surplus deficit : List ℕ) → Balanced N (E + count) from to first surplus deficit →
       Balanced (2 * vertex_count s + 1) (all_slots s) from to first surplus deficit
-  laid_balance from to first surplus deficit B = rw (← nodes_are, ← edges_are) B
+  laid_balance from to first surplus deficit B = rw (← en, ← edges_are) B
 
 module _ (s : List ℕ) (kept : List Bool) (Y : Layable s kept) where
   module _ (from to cost first : List ℕ) (live : List Bool) (surplus deficit : List ℕ) (L : NetworkLaid s from to cost first live surplus deficit) where
@@ -191,63 +173,64 @@ module _ (s : List ℕ) (kept : List Bool) (Y : Layable s kept) where
           (λ e h. subst (λ x. x ≤ max_demand) (L.loads.is e h) (loads_low s Y.reads Y.coverable from to cost first L.edges L.loads e h)) L.nodes carried
           (balance_sums s Y.reads Y.coverable from to cost first L.edges L.loads live L.nodes surplus deficit L.balance).1 A
 
--- the same by the numbers of vertices and arcs that the code holds
-module _ (s : List ℕ) (kept : List Bool) (Y : Layable s kept) (n m : ℕ) (en : n ≡ vertex_count s) (em : m ≡ arc_count s) (from to cost first : List ℕ) (live : List Bool)
-    (surplus deficit : List ℕ) (L : NetworkLaid s from to cost first live surplus deficit) where
-  pub to_carry : (mark : List ℕ) → AtBase mark → Shape (2 * n + 1) (3 * n + m) live from to cost × Waiting (2 * n + 1) (3 * n + m) live (replicate most_edges 0) mark surplus deficit
-  to_carry mark b = (
-    subst₂ (λ (x y : ℕ). Shape (2 * x + 1) (3 * x + y) live from to cost) (sym en) (sym em) (laid_shape s kept Y from to cost first live surplus deficit L),
-    subst₂ (λ (x y : ℕ). Waiting (2 * x + 1) (3 * x + y) live (replicate most_edges 0) mark surplus deficit) (sym en) (sym em)
-        (laid_waiting s kept Y from to cost first live surplus deficit L (replicate most_edges 0) mark (length-replicate {A = ℕ} most_edges 0) b.long (λ e h. zeros most_edges e) b.each),
+-- the same by the numbers of nodes and edges that the network has
+module _ (s : List ℕ) (kept : List Bool) (Y : Layable s kept) (N E : ℕ) (en : N ≡ 2 * vertex_count s + 1) (ee : E ≡ plain_slots s) (from to cost first : List ℕ)
+    (live : List Bool) (surplus deficit : List ℕ) (L : NetworkLaid s from to cost first live surplus deficit) where
+  pub to_carry : (load mark : List ℕ) → length load ≡ most_edges → ((e : ℕ) → nth load e ≡ 0) → AtBase mark →
+      Shape N E live from to cost × Waiting N E live load mark surplus deficit
+  to_carry load mark a c b = (
+    subst₂ (λ (x y : ℕ). Shape x y live from to cost) (sym en) (sym ee) (laid_shape s kept Y from to cost first live surplus deficit L),
+    subst₂ (λ (x y : ℕ). Waiting x y live load mark surplus deficit) (sym en) (sym ee)
+        (laid_waiting s kept Y from to cost first live surplus deficit L load mark a b.long (λ e h. c e) b.each),
   )
 
+  pub few_edges : E ≤ most_edges
+  few_edges = let h = Y.reads.arcs.header in omega (arith, h.vertices_room, h.arcs_room)
+
   module _ (load mark : List ℕ)
-      (C : (given wanted : ℕ → ℕ) → ((u : ℕ) → u < 2 * n + 1 → nth surplus u + wanted u ≡ nth deficit u + given u) →
-      Carried (2 * n + 1) (3 * n + m) live from to cost load mark given wanted (sum_to (2 * n + 1) (λ u. nth surplus u))) where
+      (C : (given wanted : ℕ → ℕ) → ((u : ℕ) → u < N → nth surplus u + wanted u ≡ nth deficit u + given u) →
+      Carried N E live from to cost load mark given wanted (sum_to N (λ u. nth surplus u))) where
     moved : (given wanted : ℕ → ℕ) → ((u : ℕ) → u < 2 * vertex_count s + 1 → nth surplus u + wanted u ≡ nth deficit u + given u) →
         Carried (2 * vertex_count s + 1) (plain_slots s) live from to cost load mark given wanted (sum_to (2 * vertex_count s + 1) (λ u. nth surplus u))
     moved =
         subst₂
-        (λ (x y : ℕ). (given wanted : ℕ → ℕ) → ((u : ℕ) → u < 2 * x + 1 → nth surplus u + wanted u ≡ nth deficit u + given u) →
-        Carried (2 * x + 1) (3 * x + y) live from to cost load mark given wanted (sum_to (2 * x + 1) (λ u. nth surplus u)))
-        en em C
+        (λ (x y : ℕ). (given wanted : ℕ → ℕ) → ((u : ℕ) → u < x → nth surplus u + wanted u ≡ nth deficit u + given u) →
+        Carried x y live from to cost load mark given wanted (sum_to x (λ u. nth surplus u)))
+        en ee C
 
-    pub to_add : length load ≡ most_edges → ((3 * n + m ≤ most_edges) × (length load ≡ most_edges) × (length first ≡ most_edges)) × ((e : ℕ) → e < 3 * n + m → (nth load e ≤ most_moved) × (nth first e ≤ max_demand))
-    to_add long =
-        let h = Y.reads.arcs.header in
-        ((omega (arith, h.vertices_room, h.arcs_room), long, L.loads.long), λ e l. both_low s kept Y from to cost first live surplus deficit L load mark moved e (omega arith))
+    pub to_add : (e : ℕ) → e < E → (nth load e ≤ most_moved) × (nth first e ≤ max_demand)
+    to_add e l = both_low s kept Y from to cost first live surplus deficit L load mark moved e (omega arith)
 
-    pub flow_done : (added full : List ℕ) → Added (3 * n + m) from to load first added full → Flowed s from to mark full
+    pub flow_done : (added full : List ℕ) → Added E from to load first added full → Flowed s from to mark full
     flow_done added full A =
         all_flowed s kept Y from to cost first live surplus deficit L load mark moved added full
-        (subst₂ (λ (x y : ℕ). Added (3 * x + y) from to load first added full) en em A)
+        (subst (λ (y : ℕ). Added y from to load first added full) ee A)
 
 -- ---- the paths
 
-module _ (s : List ℕ) (right : Reads s) (c : Coverable (graph_of s)) (n m count : ℕ) (en : n ≡ vertex_count s) (em : m ≡ arc_count s) (ec : count ≡ length (prepared_of s))
-    (from to full : List ℕ) (L : Loaded s from to full) where
-  pub all_keys : (head next : List ℕ) → count ≤ table_rows → length head ≡ most_nodes → length next ≡ most_edges → Keys (2 * n + 1) (3 * n + m + count) from head next
-  all_keys head next few a b =
+module _ (s : List ℕ) (right : Reads s) (c : Coverable (graph_of s)) (N E count : ℕ) (en : N ≡ 2 * vertex_count s + 1) (ee : E ≡ plain_slots s)
+    (ec : count ≡ length (prepared_of s)) (from to full : List ℕ) (L : Loaded s from to full) where
+  pub all_keys : count ≤ table_rows → Keys N (E + count) from
+  all_keys few =
       let h = right.arcs.header in
       record {
         few_nodes = omega (arith, h.vertices_room);
         few_edges = omega (arith, h.vertices_room, h.arcs_room);
         key_node = λ e l. omega (arith, L.goes.from_right e (omega arith), (ends_live s right c e (omega arith)).0.0);
-        head_long = a;
-        next_long = b;
       }
 
-  pub peel_ready : (rows : List (List ℕ)) (lens head next : List ℕ) → Leaves rows lens count (prepared_of s) → Chained (2 * n + 1) (3 * n + m + count) from head next →
-      Ready s n (3 * n + m) (3 * n + m + count) from head next rows lens
-  peel_ready rows lens head next T C =
+  pub peel_ready : {n : ℕ} → n ≡ vertex_count s → (rows : List (List ℕ)) (lens head next : List ℕ) → Leaves rows lens count (prepared_of s) →
+      Chained N (E + count) from head next → Ready s n E N (E + count) from head next rows lens
+  peel_ready e rows lens head next T C =
       record {
         reads = right;
         held = record {
-          vertices_right = en;
+          vertices_right = e;
           few_vertices = omega (arith, right.arcs.header.vertices_room);
-          plain_right = omega arith;
+          plain_right = ee;
           table = subst (λ k. Leaves rows lens k (prepared_of s)) ec T;
         };
+        nodes_right = en;
         edges_right = omega arith;
         chained = C;
       }

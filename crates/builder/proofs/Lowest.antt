@@ -23,9 +23,8 @@ use Rattle.forms.proofs.GraphFacts.{graph_well_formed}
 use Rattle.checker.proofs.GraphReads.{number_zero_iff_reads, number_to_seven}
 use Rattle.forms.proofs.GraphRange.{vertices_length}
 use Rattle.checker.proofs.Soundness.{accepted_is_lowest}
-use Rattle.builder.specs.declared.Built.{Built}
 use Rattle.forms.specs.BuildFaults.{room_asked, cover_verdict, build_verdict}
-use Rattle.builder.specs.Build.{BuildPromise}
+use Rattle.builder.specs.Build.{Built, BuildPromise}
 use Rattle.builder.specs.Lacking.{FirstLacking}
 use Rattle.builder.specs.Results.{LowestForm}
 use Rattle.network.proofs.NetworkLaws.{same_or_not}

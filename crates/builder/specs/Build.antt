@@ -1,9 +1,20 @@
 -- Document 01: what the builder promises. Demand 2: the bytes written are an answer that the checker accepts. Its refusals 8 and 9 are defined with the forms.
-use Rattle.std.specs.Prelude.{ℕ, ◌≤◌, ◌≡◌, List, ◌≢◌, length, take, drop}
+use Rattle.std.specs.Prelude.{ℕ, Result, ◌≤◌, ◌≡◌, List, ◌≢◌, length, take, drop}
 use Rattle.forms.specs.GraphFaults.{refusal, nothing_refused}
 use Rattle.forms.specs.BuildFaults.{build_verdict}
+use Rattle.forms.specs.declared.refusals.Refused.{Refused}
+use Rattle.forms.specs.Refusals.{verdict_of, value_of}
 use Rattle.checker.specs.Check.{check_verdict}
-use Rattle.builder.specs.declared.Built.{Built}
+
+-- what a call to build answers, in numbers: the refusal's number and place (both 0 where nothing is refused), and how many bytes it wrote at the front of the output
+pub record Built : Type 0 where
+  pub number : ℕ
+  pub place : ℕ
+  pub written : ℕ
+
+-- "Each answer holds number and place; both are 0 where nothing is refused", and the count is 0 on a refusal
+abbrev pub built_of : Result ℕ Refused → Built
+built_of r = record { number = (verdict_of r).number; place = (verdict_of r).place; written = value_of r }
 
 -- The builder's promise for graph bytes s and an output that held `before` and now holds `after`.
 pub record BuildPromise (s before after : List ℕ) (r : Built) : Type 0 where

@@ -8,7 +8,7 @@ use Rattle.forms.specs.GraphFaults.{nothing_refused}
 use Rattle.forms.specs.AnswerForm.{stated_price, answer_marks, cover_of}
 use Rattle.checker.specs.Check.{check_verdict}
 use Rattle.checker.specs.Acceptable.{MarksFit}
-use Rattle.builder.specs.declared.Built.{Built}
+use Rattle.builder.specs.Build.{Built}
 
 -- What the bytes t are for the graph bytes s: an answer form of a lowest-price cover at its price, inside the limits of document 01, "Numbers allowed".
 pub record LowestForm (s t : List ℕ) : Type 0 where

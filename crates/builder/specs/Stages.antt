@@ -24,18 +24,6 @@ pub record Layable (s : List ℕ) (kept : List Bool) : Type 0 where
   pub coverable : Coverable (graph_of s)
   pub marked : Tells s (useful (graph_of s)) kept
 
--- arrays that nothing is laid in yet
-pub record Blank (from to cost full : List ℕ) (live : List Bool) (surplus deficit : List ℕ) : Type 0 where
-  pub from_long : length from ≡ most_edges
-  pub to_long : length to ≡ most_edges
-  pub cost_long : length cost ≡ most_edges
-  pub full_long : length full ≡ most_edges
-  pub live_long : length live ≡ most_nodes
-  pub surplus_long : length surplus ≡ most_nodes
-  pub deficit_long : length deficit ≡ most_nodes
-  pub no_surplus : (u : ℕ) → nth surplus u ≡ 0
-  pub no_deficit : (u : ℕ) → nth deficit u ≡ 0
-
 -- the whole network of the form s, with its first loads and what has to move
 pub record NetworkLaid (s from to cost first : List ℕ) (live : List Bool) (surplus deficit : List ℕ) : Type 0 where
   pub edges : EdgesLaid s (all_slots s) from to cost

@@ -3,14 +3,6 @@
 // flow (crates/paths).
 #![tactic(auto)]
 
-// What a call to build answers: the refusal's number and place (both 0 where nothing is refused), and how many bytes it wrote at the front of the output.
-#[derive(Drop)]
-pub struct Built {
-    pub number: usize,
-    pub place: usize,
-    pub written: usize,
-}
-
 // What a build ends with: marks, price, and the answer form in the output.
 mod finish;
 // The builder's call.

@@ -9,35 +9,28 @@ use builder::build::{FUEL, build_within};
 use checker::Answer;
 use checker::check::check;
 use forms::fields::stated_price;
-use records::Next;
-
-// 1 for any count but 0.
-fn some(count: usize) -> usize {
-    if count == 0 {
-        return 0;
-    }
-    1
-}
 
 // On a refusal the output stays as it was, so the price that stands there is 0.
 fn print_built(graph: &[u8], fuel: usize) {
     let mut out = [0u8; Answer::LONGEST];
     let built = build_within(graph, &mut out, fuel);
-    let written = built.written;
-    let checked = check(graph, &out[..written]);
-    records::print_first(built.number);
-    records::print_next(built.place);
+    let verdict = records::verdict(&built);
+    let written = built.unwrap_or(0);
+    let checked = records::verdict(&check(graph, &out[..written]));
+    records::print_first(verdict.number);
+    records::print_next(verdict.place);
     records::print_next(stated_price(graph, &out));
-    records::print_next(some(written));
+    records::print_next(usize::from(written != 0));
     records::print_next(checked.number);
 }
 
 fn print_short(graph: &[u8], fuel: usize) {
     let mut out = [0u8; Answer::LONGEST - 1];
     let built = build_within(graph, &mut out, fuel);
-    records::print_next(built.number);
-    records::print_next(built.place);
-    records::print_next(built.written);
+    let verdict = records::verdict(&built);
+    records::print_next(verdict.number);
+    records::print_next(verdict.place);
+    records::print_next(built.unwrap_or(0));
 }
 
 fn print_line(graph: &[u8], fuel: usize) {
@@ -46,27 +39,16 @@ fn print_line(graph: &[u8], fuel: usize) {
     records::end_line();
 }
 
-// Runs the form that comes next, and answers whether it was there.
-fn run_form() -> bool {
-    let Next::Number(length) = records::read_four() else {
-        return false;
-    };
+// Runs the form that comes next, where there is one.
+fn run_form() -> Option<()> {
     // No stored form is longer. The longest that reads has 3,165 bytes.
-    let mut form = io::buffer();
-    let got = records::read_part(&mut form, length as usize);
-    if got as u64 != length {
-        return false;
-    }
-    print_line(&form[..got], FUEL);
-    print_line(&form[..got], 0);
-    true
+    let mut buffer = io::buffer();
+    let form = records::read_string(&mut buffer)?;
+    print_line(form, FUEL);
+    print_line(form, 0);
+    Some(())
 }
 
-// A proved loop has to end, and nothing says that the input does. So the loop counts its turns down, from a number that no run
-// uses up.
 fn main() {
-    let mut turns = u64::MAX;
-    while turns > 0 && run_form() {
-        turns -= 1;
-    }
+    records::run_all(run_form);
 }

@@ -1,16 +1,12 @@
 -- Each call's promise determines what it answers and what the lent output holds: any two results allowed are equal, but for the builder's choice.
 -- "Each public call's promise determines number, place and all bytes lent to it, for each input, refused or not"
-use Prim.Native.Nat.{ℕ}
-use mathlib.Core.Path.{◌≡◌, sym, ap, ◌∙◌}
-use mathlib.Core.List.{List}
+use Rattle.std.proofs.Common.{ℕ, ◌≡◌, List, sym, ap, ◌∙◌}
 use Rattle.forms.specs.declared.Verdict.{Verdict}
 use Rattle.forms.specs.GraphFaults.{refusal, graph_verdict}
 use Rattle.checker.specs.Check.{check_verdict}
 use Rattle.checker.specs.HandedOut.{PartFound}
-use Rattle.checker.specs.declared.check.PathPart.{PathPart}
-use Rattle.checker.proofs.Determined.{find_path_determined}
-use Rattle.builder.specs.declared.Built.{Built}
-use Rattle.builder.specs.Build.{BuildPromise}
+use Rattle.checker.proofs.Determined.{part_determined}
+use Rattle.builder.specs.Build.{Built, BuildPromise}
 use Rattle.builder.specs.Results.{Alike}
 use Rattle.builder.proofs.Determined.{built_twice}
 use Rattle.calls.specs.declared.Refusal.{Refusal}
@@ -34,13 +30,9 @@ check_answer_form_determined s t = told_determined (check_verdict s t)
 
 pub hand_out_path_determined : (s t : List ℕ) (k : ℕ) (r r' : HandedOutPart) → PartFound s t k r.number r.place r.offset r.length →
     PartFound s t k r'.number r'.place r'.offset r'.length → r ≡ r'
-hand_out_path_determined s t k r r' e d = ap told (find_path_determined s t k (found r) (found r') e d)
-  where
-    found : HandedOutPart → PathPart
-    found p = record { number = p.number; place = p.place; offset = p.offset; length = p.length }
-
-    told : PathPart → HandedOutPart
-    told p = record { number = p.number; place = p.place; offset = p.offset; length = p.length }
+hand_out_path_determined s t k r r' e d =
+    let same = part_determined e d in
+    λ i. record { number = (same.0 i).number; place = (same.0 i).place; offset = same.1 i; length = same.2 i }
 
 -- what the builder answers by the call for C
 abbrev pub built_of : BuiltForm → Built

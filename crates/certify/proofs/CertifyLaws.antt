@@ -1,59 +1,35 @@
 -- Numbers 19 and 21: a law for each way through the functions that test demands, reads and slacks.
-use Prim.Native.Nat.{ℕ, ◌+◌, ◌<◌, ◌≤◌}
-use native.Mathlib.Omega.{arith}
-use mathlib.Core.Path.{◌≡◌, refl, sym, ap, ap₂, ◌∙◌}
-use mathlib.Core.List.{List}
-use mathlib.Core.Bool.{Bool, true, false, cond, ◌&&◌}
-use lib.Dec.{leb}
-use lib.ListN.{length, get_or}
-use borrow.Author.Tests.{le-leb, lt-leb}
+use Rattle.std.proofs.Common.{ℕ, ◌+◌, ◌-◌, ◌<◌, ◌≤◌, arith, ◌≡◌, refl, sym, ap, ap₂, ◌∙◌, List, Bool, true, false, cond, ◌&&◌, leb, length, le-leb, ℤ, pos, ◌+ℤ◌}
+use Rattle.std.proofs.lemmas.Bool.{lt-leb}
 use Rattle.forms.specs.GraphReads.{Reads}
-use lib.IntN.{ℤ, pos, sub_ℕ, ◌+ℤ◌}
-use lib.Signed.{le_z}
+use Rattle.std.proofs.Math.IntN.{sub_ℕ}
+use Rattle.std.specs.Int.Signed.{le_z}
 use Rattle.mathematics.specs.Price.{whole, sub}
 use Rattle.mathematics.specs.Bound.{start_slack, end_slack, vertex_slack, arc_slack}
 use Rattle.forms.specs.Limits.{mark_limit}
-use Rattle.forms.specs.GraphForm.{vertex_count, arc_count, opening_price, vertex_demand, arc_at, arc_tail, arc_head, arc_cost, arc_demand}
+use Rattle.forms.specs.GraphForm.{vertex_count, arc_count, opening_price, arc_at, arc_tail, arc_head, arc_cost}
 use Rattle.mathematics.specs.Graph.{Vertex, is_start, is_end}
 use Rattle.forms.specs.GraphOf.{graph_of, vertex_of, arc_of}
+use Rattle.forms.specs.AnswerFaults.{mark_fault}
 use Rattle.forms.specs.AnswerForm.{mark_part_length, signed32, in_mark_at, out_mark_at, answer_marks}
-use Rattle.certify.specs.Certify.{vertex_unmet, arc_unmet, read_unmet, vertex_slack_fault, arc_slack_fault, MarksStand}
+use Rattle.certify.specs.Certify.{vertex_slack_fault, arc_slack_fault, MarksStand}
+use Rattle.forms.specs.declared.refusals.Fault.{Fault}
+use Rattle.forms.specs.declared.refusals.Refused.{Refused}
+use Rattle.forms.specs.GraphFaults.{refusal, first_fault}
+use Rattle.forms.specs.Refusals.{number_of}
 use Rattle.forms.proofs.GraphRange.{vertex_is}
+use Rattle.forms.proofs.Scan.{scan_stops}
+use Rattle.forms.proofs.ThenLaws.{number_positive}
 use Rattle.forms.proofs.LayoutLaws.{parts_few, mark_before}
 use Rattle.certify.proofs.CertifyLawsSlack.{held_difference, plain_less_held, held_sum_less_held, not_below}
 
-module _ (s totals : List ℕ) (i : ℕ) where
-  pub vertex_unmet_lem : get_or totals i 0 < vertex_demand s i → 19 ≡ vertex_unmet s totals i
-  unfolding vertex_unmet
-  vertex_unmet_lem h = simp (lt-leb _ _ h)
-
-  pub vertex_met : vertex_demand s i ≤ get_or totals i 0 → 0 ≡ vertex_unmet s totals i
-  unfolding vertex_unmet
-  vertex_met h = simp (le-leb _ _ h)
-
-  pub arc_unmet_lem : get_or totals i 0 < arc_demand s (arc_at s i) → 19 ≡ arc_unmet s totals i
-  unfolding arc_unmet
-  arc_unmet_lem h = simp (lt-leb _ _ h)
-
-  pub arc_met : arc_demand s (arc_at s i) ≤ get_or totals i 0 → 0 ≡ arc_unmet s totals i
-  unfolding arc_unmet
-  arc_met h = simp (le-leb _ _ h)
-
-pub read_unmet_lem : (met : List Bool) (r : ℕ) → get_or met r false ≡ false → 19 ≡ read_unmet met r
-unfolding read_unmet
-read_unmet_lem met r e = simp e
-
-pub read_met : (met : List Bool) (r : ℕ) → get_or met r false ≡ true → 0 ≡ read_unmet met r
-unfolding read_unmet
-read_met met r e = simp e
-
--- The marks of a vertex stand within the answer.
+-- The marks of a vertex stand within the answer, and are in range.
 module _ {s t : List ℕ} {v : ℕ} (m : MarksStand s t) (h : v < vertex_count s) where
-  pub in_mark_within : in_mark_at s v + mark_part_length ≤ length t
-  in_mark_within = omega (arith, m.long, mark_before s v (vertex_count s) h, parts_few s)
+  pub in_mark_stands : (in_mark_at s v + mark_part_length ≤ length t) × (mark_fault t (in_mark_at s v) ≡ 0)
+  in_mark_stands = (omega (arith, m.long, mark_before s v (vertex_count s) h, parts_few s), m.into v h)
 
-  pub out_mark_within : out_mark_at s v + mark_part_length ≤ length t
-  out_mark_within = omega (arith, m.long, mark_before s v (vertex_count s) h, parts_few s)
+  pub out_mark_stands : (out_mark_at s v + mark_part_length ≤ length t) × (mark_fault t (out_mark_at s v) ≡ 0)
+  out_mark_stands = (omega (arith, m.long, mark_before s v (vertex_count s) h, parts_few s), m.out v h)
 
 -- The slacks of a vertex whose marks are held with the limit added, i and o.
 module _ (s t : List ℕ) (v i o : ℕ) (into : signed32 t (in_mark_at s v) ≡ sub_ℕ i mark_limit) (out : signed32 t (out_mark_at s v) ≡ sub_ℕ o mark_limit) where

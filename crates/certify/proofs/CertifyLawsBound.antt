@@ -1,12 +1,8 @@
 -- Number 22: the bound as one sum of numbers that are not below 0, where no slack is below 0.
-use Prim.Native.Nat.{ℕ, suc, ◌+◌, ◌-◌, ◌*◌, ◌<◌, ◌≤◌}
-use native.Mathlib.Nat.{zero-add, sub-zero, mul-le-mul}
-use native.Mathlib.Omega.{arith}
-use native.Mathlib.Decide.{dec_le}
-use native.Mathlib.Numerals.{add-one}
-use mathlib.Core.Path.{◌≡◌, refl, sym, ap, ap₂, ◌∙◌}
-use mathlib.Core.List.{List}
-use lib.IntN.{ℤ, nat_abs, sub_ℕ}
+use Rattle.std.proofs.Common.{ℕ, suc, ◌+◌, ◌-◌, ◌*◌, ◌<◌, ◌≤◌, zero-add, mul-le-mul, arith, add-one, ◌≡◌, refl, sym, ap, ap₂, ◌∙◌, List, ℤ, nat_abs}
+use Rattle.std.proofs.Math.Nat.{sub-zero}
+use Rattle.std.proofs.Math.Decide.{dec_le}
+use Rattle.std.proofs.Math.IntN.{sub_ℕ}
 use Rattle.mathematics.specs.Price.{whole}
 use Rattle.mathematics.specs.Bound.{vertex_slack, arc_slack}
 use Rattle.forms.specs.Limits.{mark_limit, max_demand, max_cost}

@@ -1,37 +1,28 @@
 -- Counting the reads of the table: what one read adds at each vertex and arc, and what all of them come to.
-use Prim.Native.Nat.{ℕ, zero, suc, ◌+◌, ◌*◌, ◌<◌, ◌≤◌}
-use native.Mathlib.Nat.{add-zero, le_refl, le_of_eq}
-use native.Mathlib.Omega.{arith}
-use native.Mathlib.Numerals.{add-one}
-use mathlib.Core.Path.{◌≡◌, refl, sym, ap, ◌∙◌}
-use mathlib.Core.List.{List, [], ◌∷◌}
-use mathlib.Core.Bool.{Bool, true, false, ◌&&◌}
-use lib.Dec.{eqb}
-use lib.ListN.{length, get_or, drop, set, length-set, length-drop, drop_of_length-le, replicate, length-replicate}
-use lib.Seq.{drop-cons}
-use borrow.Author.Tests.{eqb-true}
+use Rattle.std.proofs.Common.{ℕ, zero, suc, ◌+◌, ◌*◌, ◌-◌, ◌<◌, ◌≤◌, add-zero, le_refl, le_of_eq, arith, add-one, ◌≡◌, refl, sym, ap, ◌∙◌, List, [], ◌∷◌, Bool, true, false, ◌&&◌, eqb, length, get_or, take, drop, set, length-set, length-drop, drop_of_length-le, replicate, drop-cons, eqb-true, Some, None}
+use Rattle.std.proofs.Math.ListN.{length-replicate}
+use Rattle.std.proofs.Math.Seq.{take-length}
+use Rattle.std.proofs.lemmas.List.{get_or-take, get_or-drop}
 use Rattle.mathematics.specs.Cover.{Item, vert, arc, same_item, one_if, count_of, trail}
 use Rattle.mathematics.specs.Bound.{reads_through}
 use Rattle.mathematics.proofs.Basics.{all_at, at_all}
 use Rattle.mathematics.proofs.Items.{reads_few}
-use Rattle.forms.specs.declared.Found.TheVariants.{At, Missing}
 use Rattle.forms.specs.Limits.{room_vertices, room_arcs}
 use Rattle.forms.specs.GraphForm.{arc_count, arc_at, arc_tail, arc_head}
 use Rattle.forms.specs.GraphOf.{arcs_of, arc_item}
 use Rattle.forms.specs.GraphReads.{ArcsRight}
 use Rattle.forms.specs.ArcTable.{arc_number}
 use Rattle.certify.specs.Growth.{onward, Grown}
-use Rattle.reads.specs.ReadTable.{row_at, rows_of, RowHolds, TableHolds, row_length}
+use Rattle.reads.specs.ReadTable.{row_at, rows_of, ReadHolds, TableHolds, row_length}
 use Rattle.certify.specs.Certify.{CountsLow, ArcPassed, ReadsCounted, most_reads}
 use Rattle.certify.proofs.GrowthLaws.{found_arc, only_arc, grow, count_few, trail_onward, length_onward}
 use Rattle.forms.proofs.Lookup.{found_iff_goes}
 use Rattle.mathematics.specs.Lists.{All}
-use Rattle.reads.proofs.TableLaws.{row_get}
 use Rattle.reads.proofs.TableRows.{table_length, table_get, table_from, table_row}
 
 module _ (s : List ℕ) (right : ArcsRight s) (u v : ℕ) (counts : List ℕ) (long : length counts ≡ room_arcs) where
   -- no arc goes from u to v: no arc is counted
-  pub arc_none : Missing ≡ arc_number (arcs_of s) u v → ArcPassed s u v counts counts
+  pub arc_none : None ≡ arc_number (arcs_of s) u v → ArcPassed s u v counts counts
   arc_none e = record { long = long; each = λ a h. sym (ap (λ b. get_or counts a 0 + one_if b) (other a h (same_item (arc_item s a) (arc u v)) refl) ∙ add-zero _) }
     where
       both : (x y : Bool) → (x && y) ≡ true → (x ≡ true) × (y ≡ true)
@@ -41,12 +32,12 @@ module _ (s : List ℕ) (right : ArcsRight s) (u v : ℕ) (counts : List ℕ) (l
       other : (a : ℕ) → a < arc_count s → (b : Bool) → same_item (arc_item s a) (arc u v) ≡ b → b ≡ false
       other a h true q =
           let ends = both (eqb (arc_tail s (arc_at s a)) u) (eqb (arc_head s (arc_at s a)) v) q in
-          let at : arc_number (arcs_of s) u v ≡ At a = (found_iff_goes s u v right a).1 (h, eqb-true _ _ ends.0, eqb-true _ _ ends.1) in
+          let at : arc_number (arcs_of s) u v ≡ Some a = (found_iff_goes s u v right a).1 (h, eqb-true _ _ ends.0, eqb-true _ _ ends.1) in
           let z : ◌≡◌ {A = ℕ} 0 1 = cc in
           absurd (omega arith)
       other a h false q = refl
 
-  module _ (k : ℕ) (found : At k ≡ arc_number (arcs_of s) u v) where
+  module _ (k : ℕ) (found : Some k ≡ arc_number (arcs_of s) u v) where
     arc_inside : k < arc_count s
     arc_inside = (found_arc s u v right k found).inside
 
@@ -139,12 +130,19 @@ count_end {s} {row} {vb} {va} {ab} {aa} {f} {u} {k} c h some e inside =
     split : trail row ≡ vert f ∷ onward f (drop 1 row)
     split = ap trail (headed row some) ∙ (rw e (trail_onward (get_or row 0 0) (drop 1 row)))
 
--- a number that is read of a row of the table is one of its read's, and below the number of vertices
-pub row_number : (rows : List (List ℕ)) (lens : List ℕ) (i k v : ℕ) → RowHolds rows lens i → k < get_or lens i 0 → v ≡ get_or (get_or rows i []) k 0 →
-    (v ≡ get_or (row_at rows lens i) k 0) × (v < room_vertices)
-row_number rows lens i k v r h e =
-    let same : v ≡ get_or (row_at rows lens i) k 0 = e ∙ sym (row_get rows lens i k h) in
-    (same, omega (arith, at_all (λ (w : ℕ). w < row_length) 0 (row_at rows lens i) r.read.below k (omega (arith, r.long))))
+-- a number of a read of the table is below the number of vertices
+pub number_room : {row : List ℕ} {k v : ℕ} → ReadHolds row → k < length row → v ≡ get_or row k 0 → v < room_vertices
+number_room {row} {k} r h e = omega (arith, e, at_all (λ (w : ℕ). w < row_length) 0 row r.below k h)
+
+-- the numbers of a row behind its first: how many they are, and which stands at place j of them
+pub behind_length : (row : List ℕ) → length (take (length row - 1) (drop 1 row)) ≡ length row - 1
+behind_length row = rw (← length-drop 1 row, take-length)
+
+pub behind_first : (row : List ℕ) (j : ℕ) → j < length (take (length row - 1) (drop 1 row)) → (get_or (take (length row - 1) (drop 1 row)) j 0 ≡ get_or row (j + 1) 0) × (j + 1 < length row)
+behind_first row j h =
+    let inside : j < length row - 1 = omega (arith, behind_length row) in
+    let place : 1 + j ≡ j + 1 = omega arith in
+    (get_or-take (length row - 1) (drop 1 row) j 0 inside ∙ (get_or-drop 1 row j 0 ∙ ap (λ k. get_or row k 0) place), omega arith)
 
 -- Of the table's reads those from row i on are left: with what they add, the counts are those of all.
 pub record ReadsLeft (s : List ℕ) (rs : List (List ℕ)) (vr ar : List ℕ) (i : ℕ) : Type 0 where

@@ -1,14 +1,10 @@
 -- Differences of unsigned numbers and signed ones: marks are held with a number added, so that a slack is a difference of two numbers that are not below 0.
 -- Each law is over plain numbers.
-use Prim.Native.Nat.{ℕ, zero, suc, ◌+◌, ◌-◌, ◌≤◌}
-use native.Mathlib.Nat.{add-zero, sub-zero}
-use native.Mathlib.Omega.{arith}
-use mathlib.Core.Path.{◌≡◌, refl, sym, ap, ap₂, ◌∙◌}
-use mathlib.Core.Bool.{Bool, true, false, cond}
-use lib.Dec.{ltb, leb}
-use lib.IntN.{pos, negsuc, neg_ℤ, sub_ℕ, ◌+ℤ◌, +ℤ_assoc}
-use lib.Signed.{le_z}
-use borrow.Author.Tests.{le-ltb, le-leb, lt-leb, ltb-true, ltb-false}
+use Rattle.std.proofs.Common.{ℕ, zero, suc, ◌+◌, ◌-◌, ◌≤◌, add-zero, arith, ◌≡◌, refl, sym, ap, ap₂, ◌∙◌, Bool, true, false, cond, ltb, leb, pos, negsuc, neg_ℤ, ◌+ℤ◌, le-ltb, le-leb, ltb-true, ltb-false}
+use Rattle.std.proofs.Math.Nat.{sub-zero}
+use Rattle.std.proofs.Math.IntN.{sub_ℕ, +ℤ_assoc}
+use Rattle.std.specs.Int.Signed.{le_z}
+use Rattle.std.proofs.lemmas.Bool.{lt-leb}
 use Rattle.mathematics.specs.Price.{whole, sub}
 use Rattle.mathematics.proofs.Algebra.{sub_from, sub_add}
 use Rattle.mathematics.proofs.PriceKinds.{whole_ordered}

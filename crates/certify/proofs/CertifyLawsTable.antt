@@ -1,13 +1,9 @@
 -- Filling the table of reads with the reads of a form that reads, a row each.
-use Prim.Native.Nat.{ℕ, suc, ◌+◌, ◌-◌, ◌<◌, ◌≤◌}
-use native.Mathlib.Omega.{arith}
-use native.Mathlib.Numerals.{add-one}
-use mathlib.Core.Path.{◌≡◌, sym, ap, ◌∙◌}
-use native.Mathlib.Nat.{sub-zero}
-use native.Mathlib.Decide.{dec_lt}
-use mathlib.Core.List.{List, [], ◌∷◌, ◌++◌, append-nil}
-use lib.ListN.{length, get_or, take, drop, set, length-drop, length-set}
-use lib.Seq.{take-suc, take-suc-set, get_or-drop, append_snoc, get_or-set_same, get_or-set_other}
+use Rattle.std.proofs.Common.{ℕ, suc, ◌+◌, ◌-◌, ◌<◌, ◌≤◌, arith, add-one, ◌≡◌, sym, ap, ◌∙◌, List, [], ◌∷◌, ◌++◌, append-nil, length, get_or, take, drop, set, length-drop, length-set, take-suc-set, get_or-set_same, get_or-set_other}
+use Rattle.std.proofs.Math.Nat.{sub-zero}
+use Rattle.std.proofs.Math.Decide.{dec_lt}
+use Rattle.std.proofs.lemmas.List.{length-append, length-take-le}
+use Rattle.std.proofs.Math.Seq.{take-append_seam, append_snoc}
 use Rattle.mathematics.specs.Lists.{All}
 use Rattle.mathematics.proofs.Basics.{all_weaken}
 use Rattle.mathematics.proofs.Linked.{linked_rising}
@@ -22,17 +18,19 @@ use Rattle.reads.proofs.TableRows.{used_set, used_rows}
 use Rattle.reads.proofs.DropLaws.{all_set}
 use Rattle.forms.proofs.LayoutLaws.{read_length_room}
 
--- one byte more of a row
-pub row_turn : (s row : List ℕ) (at i : ℕ) → take i row ≡ part s at i → i < length row → at + i < length s → take (i + 1) (set row i (get_or s (at + i) 0)) ≡ part s at (i + 1)
-unfolding part
-row_turn s row at i e h k =
-    let inside : i < length (drop at s) = simp length-drop (omega arith) in
-    rw (add-one i, take-suc-set row i (get_or s (at + i) 0) h, take-suc (drop at s) i 0 inside, get_or-drop at s i 0, e)
+begins_with : (len : ℕ) (copied behind : List ℕ) → length copied ≡ len → take len (copied ++ behind) ≡ copied
+begins_with len copied behind e = rw (← e) (take-append_seam copied behind)
 
-pub row_end : (s row : List ℕ) (at len i : ℕ) → take i row ≡ part s at i → i ≤ len → len ≤ i → take len row ≡ part s at len
-row_end s row at len i e h k =
-    let same : i ≡ len = omega arith in
-    rw same at e
+-- a row whose first len bytes are copied from s, whatever stands behind them
+pub row_filled : (s : List ℕ) (at len : ℕ) (row copied : List ℕ) → at + len ≤ length s → len ≤ length row → copied ≡ take (at + len - at) (drop at s) →
+    (take len (copied ++ drop len row) ≡ part s at len) × (length (copied ++ drop len row) ≡ length row)
+unfolding part
+row_filled s at len row copied h fit e =
+    let size : at + len - at ≡ len = omega arith in
+    let same : copied ≡ take len (drop at s) = rw size at e in
+    let inside : len ≤ length (drop at s) = simp length-drop (omega arith) in
+    let long : length copied ≡ len = ap length same ∙ length-take-le len (drop at s) inside in
+    (begins_with len copied (drop len row) long ∙ same, omega (arith, length-append copied (drop len row), long, length-drop len row))
 
 -- a read of a form that reads is a read of the table: linked in the graph, so its numbers rise
 reads_hold : (s : List ℕ) → Reads s → All ReadHolds (graph_of s).reads

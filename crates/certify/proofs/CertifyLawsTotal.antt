@@ -1,15 +1,7 @@
 -- The bound of document 01 is the sum of the parts of vertices and arcs, where no slack is below 0: a part is an item's rest and the reads through it, times its
 -- slack, since the terms of the reads are the slacks along them.
-use Prim.Native.Nat.{ℕ, zero, suc, ◌+◌, ◌-◌, ◌*◌, ◌<◌, ◌≤◌}
-use native.Mathlib.Nat.{zero-mul, suc-mul}
-use native.Mathlib.Omega.{arith}
-use mathlib.Core.Path.{◌≡◌, refl, sym, ap, ap₂, subst, ◌∙◌}
-use mathlib.Core.List.{List, map}
-use mathlib.Core.Bool.{Bool, true, false, cond}
-use lib.Dec.{T}
-use lib.ListN.{get_or}
-use lib.IntN.{ℤ, pos, negsuc, nat_abs, ◌+ℤ◌}
-use lib.Signed.{le_z}
+use Rattle.std.proofs.Common.{ℕ, zero, suc, ◌+◌, ◌-◌, ◌*◌, ◌<◌, ◌≤◌, zero-mul, suc-mul, arith, ◌≡◌, refl, sym, ap, ap₂, subst, ◌∙◌, List, map, Bool, true, false, cond, T, get_or, ℤ, pos, negsuc, nat_abs, ◌+ℤ◌}
+use Rattle.std.specs.Int.Signed.{le_z}
 use Rattle.mathematics.specs.Price.{whole, times}
 use Rattle.mathematics.specs.Lists.{All}
 use Rattle.mathematics.specs.Graph.{Arc}

@@ -1,23 +1,13 @@
 -- Which arc a pair of vertices is, and how a total grows by what a walk passes: for the reads that are counted, and for the paths that the checker tallies.
-use Prim.Native.Nat.{ℕ, zero, suc, ◌+◌, ◌*◌, ◌<◌}
-use native.Mathlib.Nat.{zero-add, mul-one, mul-add}
-use native.Mathlib.Decide.{dec_lt, ℕ_discrete}
-use native.Mathlib.Omega.{arith}
-use mathlib.Core.Path.{◌≡◌, refl, sym, ap, ◌∙◌}
-use mathlib.Core.List.{List, [], ◌∷◌}
-use mathlib.Core.Bool.{Bool, true, false, cond, ◌&&◌}
-use lib.Dec.{eqb}
-use lib.ListN.{length, get_or, set}
-use lib.Seq.{get_or-set_same, get_or-set_other}
-use lib.IntN.{pos}
-use borrow.Author.Tests.{eq-eqb, ne_eqb, eqb-true}
+use Rattle.std.proofs.Common.{ℕ, zero, suc, ◌+◌, ◌*◌, ◌<◌, zero-add, mul-one, mul-add, arith, ◌≡◌, refl, sym, ap, ◌∙◌, List, [], ◌∷◌, Bool, true, false, cond, ◌&&◌, eqb, length, get_or, set, get_or-set_same, get_or-set_other, pos, eq-eqb, ne_eqb, eqb-true, Some}
+use Rattle.std.proofs.Math.Decide.{dec_lt, ℕ_discrete}
 use Rattle.mathematics.specs.Price.{whole}
 use Rattle.mathematics.specs.Graph.{joins, has_arc}
 use Rattle.mathematics.specs.Cover.{Item, vert, arc, same_item, one_if, trail, cost_of}
 pub use Rattle.mathematics.proofs.Items.{count_few}
-use Rattle.forms.specs.declared.Found.TheVariants.{At}
 use Rattle.forms.specs.Bytes.{tabulate}
-use Rattle.forms.specs.GraphForm.{arc_count, arc_at, arc_tail, arc_head, arc_cost}
+use Rattle.forms.specs.Limits.{room_vertices, room_arcs}
+use Rattle.forms.specs.GraphForm.{vertex_count, arc_count, arc_at, arc_tail, arc_head, arc_cost}
 use Rattle.forms.specs.GraphOf.{arc_of, arcs_of, arc_item}
 use Rattle.forms.specs.GraphReads.{ArcsRight}
 use Rattle.forms.specs.ArcTable.{number_from, arc_number}
@@ -36,18 +26,18 @@ pub record TheArc (s : List ℕ) (u v k : ℕ) : Type 0 where
 
 module _ (s : List ℕ) (u v : ℕ) where
   -- the cost of the first arc from u to v, among count arcs from arc i on
-  cost_from : (count i k : ℕ) → number_from (tabulate (arc_of s) count i) u v i ≡ At k → cost_of whole (tabulate (arc_of s) count i) u v ≡ pos (arc_cost s (arc_at s k))
+  cost_from : (count i k : ℕ) → number_from (tabulate (arc_of s) count i) u v i ≡ Some k → cost_of whole (tabulate (arc_of s) count i) u v ≡ pos (arc_cost s (arc_at s k))
   unfolding number_from
   cost_from zero i k e = absurd (let z : ◌≡◌ {A = ℕ} 0 1 = cc in omega arith)
   cost_from (suc count) i k e = by (joins (arc_of s i) u v) (λ f. cost_from count (suc i) k f) e
     where
-      by : (b : Bool) → (number_from (tabulate (arc_of s) count (suc i)) u v (suc i) ≡ At k → cost_of whole (tabulate (arc_of s) count (suc i)) u v ≡ pos (arc_cost s (arc_at s k))) → cond b (At i) (number_from (tabulate (arc_of s) count (suc i)) u v (suc i)) ≡ At k → cond b (pos (arc_cost s (arc_at s i))) (cost_of whole (tabulate (arc_of s) count (suc i)) u v) ≡ pos (arc_cost s (arc_at s k))
+      by : (b : Bool) → (number_from (tabulate (arc_of s) count (suc i)) u v (suc i) ≡ Some k → cost_of whole (tabulate (arc_of s) count (suc i)) u v ≡ pos (arc_cost s (arc_at s k))) → cond b (Some i) (number_from (tabulate (arc_of s) count (suc i)) u v (suc i)) ≡ Some k → cond b (pos (arc_cost s (arc_at s i))) (cost_of whole (tabulate (arc_of s) count (suc i)) u v) ≡ pos (arc_cost s (arc_at s k))
       by true more e =
           let same : i ≡ k = cc in
           rw same
       by false more e = more e
 
-  pub found_arc : ArcsRight s → (k : ℕ) → At k ≡ arc_number (arcs_of s) u v → TheArc s u v k
+  pub found_arc : ArcsRight s → (k : ℕ) → Some k ≡ arc_number (arcs_of s) u v → TheArc s u v k
   found_arc right k e =
       let goes = (found_iff_goes s u v right k).0 (sym e) in
       record {
@@ -96,3 +86,15 @@ length_onward u (v ∷ q) = omega (arith, length_onward v q)
 pub trail_onward : (u : ℕ) (q : List ℕ) → trail (u ∷ q) ≡ vert u ∷ onward u q
 trail_onward u [] = refl
 trail_onward u (v ∷ q) = ap (λ (is : List Item). vert u ∷ arc u v ∷ is) (trail_onward v q)
+
+-- the tables have room for the arc that was found and for its head
+module _ {s : List ℕ} (u v : ℕ) {k : ℕ} (right : ArcsRight s) (found : Some k ≡ arc_number (arcs_of s) u v) where
+  pub found_room : k < room_arcs
+  found_room = omega (arith, (found_arc s u v right k found).inside, right.header.arcs_room)
+
+  -- the head of an arc is a vertex
+  pub head_inside : v < vertex_count s
+  head_inside = let the = found_arc s u v right k found in omega (arith, (right.each k the.inside).inside, the.head)
+
+  pub head_room : v < room_vertices
+  head_room = omega (arith, head_inside, right.header.vertices_room)

@@ -1,15 +1,8 @@
 -- What an accepted answer is, condition by condition: the verdict's number is 0 exactly where each test of numbers 1 to 22 passes, and then the place is 0 too.
 -- Soundness reads the conditions off an accepted answer; completeness shows them of the answer that it writes.
-use Prim.Native.Nat.{ℕ, zero, suc, ◌+◌, ◌≤◌}
-use native.Mathlib.Omega.{arith}
-use mathlib.Core.Path.{◌≡◌, refl, ap, ◌∙◌}
-use mathlib.Core.List.{List, [], ◌∷◌}
-use mathlib.Core.Logic.{◌↔◌}
-use mathlib.Core.Bool.{Bool, true, false, cond, not, ◌&&◌, ◌||◌}
-use lib.Dec.{T, ltb, leb, eqb, nltb→le, leb→le, le→leb, eqb→eq, eqb-suc-zero}
-use borrow.Author.Tests.{le-ltb, eq-eqb, ne_eqb, eqb-true, eqb-false}
-use lib.ListN.{length}
-use lib.IntN.{pos, neg_ℤ}
+use Rattle.std.proofs.Common.{ℕ, zero, suc, ◌+◌, ◌≤◌, arith, ◌≡◌, refl, ap, ◌∙◌, List, [], ◌∷◌, ◌↔◌, Bool, true, false, cond, not, ◌&&◌, ◌||◌, T, ltb, leb, eqb, nltb→le, leb→le, le→leb, eqb→eq, le-ltb, eq-eqb, ne_eqb, eqb-true, length, pos, neg_ℤ}
+use lib.Dec.{eqb-suc-zero}
+use borrow.Author.Tests.{eqb-false}
 use lib.Signed.{le_z}
 use Rattle.mathematics.specs.Price.{Prices, whole}
 use Rattle.mathematics.specs.Lists.{All, some_holds}

@@ -1,14 +1,10 @@
 -- Reading the path records of an answer: the verdict on one record, and the laws of the loop over all of them, with what is tallied.
-use Prim.Native.Nat.{ℕ, zero, suc, ◌+◌, ◌-◌, ◌*◌, ◌<◌, ◌≤◌}
-use native.Mathlib.Nat.{zero-add, add-zero, add_assoc, zero-mul, suc-mul, mul-le-mul_left}
-use native.Mathlib.Omega.{arith}
-use mathlib.Core.Path.{◌≡◌, refl, sym, ap, ◌∙◌}
-use mathlib.Core.List.{List, [], ◌∷◌}
-use mathlib.Core.Bool.{Bool, true, false, cond, not, ◌&&◌, ◌||◌, or_assoc}
-use lib.Dec.{ltb, eqb}
-use lib.ListN.{length, get_or, replicate, length-replicate}
-use lib.IntN.{pos, ◌+ℤ◌, +ℤ_assoc, +ℤ_idl, +ℤ_idr}
-use borrow.Author.Tests.{lt-ltb, le-ltb, eq-eqb, ne_eqb}
+use Rattle.std.proofs.Common.{ℕ, zero, suc, ◌+◌, ◌-◌, ◌*◌, ◌<◌, ◌≤◌, zero-add, add-zero, add_assoc, zero-mul, suc-mul, mul-le-mul_left, arith, ◌≡◌, refl, sym, ap, ◌∙◌, List, [], ◌∷◌, Bool, true, false, cond, not, ◌&&◌, ◌||◌, eqb, length, get_or, take, drop, replicate, pos, ◌+ℤ◌, lt-ltb, le-ltb, eq-eqb, ne_eqb}
+use mathlib.Core.Bool.{or_assoc}
+use lib.ListN.{length-replicate}
+use lib.IntN.{+ℤ_assoc, +ℤ_idl, +ℤ_idr}
+use borrow.Author.Tests.{not-true, not-false}
+use Rattle.std.proofs.lemmas.Bool.Decides.{nat_tests}
 use Rattle.mathematics.specs.Price.{whole, times}
 use Rattle.mathematics.specs.Lists.{some_holds}
 use Rattle.mathematics.specs.Graph.{is_path}
@@ -20,49 +16,14 @@ use Rattle.forms.specs.GraphFaults.{all_below, refusal, nothing_refused, or_else
 use Rattle.forms.specs.GraphForm.{vertex_count, arc_count, read_count, opening_price}
 use Rattle.forms.specs.GraphOf.{graph_of, arcs_of, arc_item}
 use Rattle.forms.specs.GraphReads.{Reads}
-use Rattle.forms.specs.Layout.{max_weight, max_path_length}
+use Rattle.forms.specs.Layout.{max_weight}
 use Rattle.forms.specs.Limits.{room_vertices, room_arcs, room_reads, max_opening, max_cost}
 use Rattle.tally.specs.Tally.{read_of, ReadsMet, TotalsFit, PathWalked}
 use Rattle.checker.specs.Tallies.{path_head_fault, PathHead, Recorded, PathRead, NothingTallied, PathsRead}
 use Rattle.forms.proofs.LayoutLaws.{bytes_few}
-use Rattle.forms.proofs.PartLaws.{part_none, part_length}
+use Rattle.forms.proofs.PartLaws.{part_length}
 use Rattle.certify.proofs.CertifyLawsCount.{same_at}
 use Rattle.tally.proofs.PathWalkLaws.{path_length_room, weight_low, through_few}
-
--- the head of a record: a law for each way through `path_head_fault`
-module _ (s t : List ℕ) (at copies : ℕ) where
-  pub head_short : length t < path_vertices_at s at → 15 ≡ path_head_fault s t at copies
-  unfolding path_head_fault
-  head_short h = simp (lt-ltb _ _ h)
-
-  module _ (long : path_vertices_at s at ≤ length t) where
-    pub head_empty : path_length s t at ≡ 0 → 16 ≡ path_head_fault s t at copies
-    unfolding path_head_fault
-    head_empty h = simp (le-ltb _ _ long, eq-eqb _ _ h)
-
-    module _ (some : path_length s t at ≡ 0 → ⊥) where
-      pub head_many : max_path_length s < path_length s t at → 16 ≡ path_head_fault s t at copies
-      unfolding path_head_fault
-      head_many h = simp (le-ltb _ _ long, ne_eqb _ _ some, lt-ltb _ _ h)
-
-      module _ (short : path_length s t at ≤ max_path_length s) where
-        pub head_past : length t < path_end s t at → 15 ≡ path_head_fault s t at copies
-        unfolding path_head_fault
-        head_past h = simp (le-ltb _ _ long, ne_eqb _ _ some, le-ltb _ _ short, lt-ltb _ _ h)
-
-        module _ (inside : path_end s t at ≤ length t) where
-          pub head_light : path_weight t at ≡ 0 → 17 ≡ path_head_fault s t at copies
-          unfolding path_head_fault
-          head_light h = simp (le-ltb _ _ long, ne_eqb _ _ some, le-ltb _ _ short, le-ltb _ _ inside, eq-eqb _ _ h)
-
-          module _ (weighs : path_weight t at ≡ 0 → ⊥) where
-            pub head_heavy : max_weight s < copies + path_weight t at → 17 ≡ path_head_fault s t at copies
-            unfolding path_head_fault
-            head_heavy h = simp (le-ltb _ _ long, ne_eqb _ _ some, le-ltb _ _ short, le-ltb _ _ inside, ne_eqb _ _ weighs, lt-ltb _ _ h)
-
-            pub head_right : copies + path_weight t at ≤ max_weight s → 0 ≡ path_head_fault s t at copies
-            unfolding path_head_fault
-            head_right h = simp (le-ltb _ _ long, ne_eqb _ _ some, le-ltb _ _ short, le-ltb _ _ inside, ne_eqb _ _ weighs, le-ltb _ _ h)
 
 -- the head of a record lies within the answer, and its weight fits a number
 module _ {s t : List ℕ} {at copies : ℕ} (head : PathHead s t at copies) where
@@ -75,76 +36,62 @@ module _ {s t : List ℕ} {at copies : ℕ} (head : PathHead s t at copies) wher
   pub head_low : copies + path_weight t at < 4294967296
   head_low = omega (arith, head.few_copies, weight_low s)
 
--- the first of several tests decides
-first_decides : (b₁ b₂ b₃ b₄ : Bool) (rest : ℕ) → cond b₁ 15 (cond b₂ 16 (cond b₃ 15 (cond b₄ 17 rest))) ≡ cond (eqb (cond b₁ 15 (cond b₂ 16 (cond b₃ 15 (cond b₄ 17 0)))) 0) rest (cond b₁ 15 (cond b₂ 16 (cond b₃ 15 (cond b₄ 17 0))))
-first_decides true b₂ b₃ b₄ rest = refl
-first_decides false true b₃ b₄ rest = refl
-first_decides false false true b₄ rest = refl
-first_decides false false false true rest = refl
-first_decides false false false false rest = refl
-
 -- one record: its head, whether it is a path of the graph, whether it comes after the path before
 module _ (s t : List ℕ) (at : ℕ) (before : List ℕ) (copies : ℕ) where
-  fault_split : path_fault s t at before copies ≡ cond (eqb (path_head_fault s t at copies) 0) (cond (not (all_below (vertex_count s) (path_vertices s t at) && is_path (graph_of s) (path_vertices s t at))) 16 (cond (list_before before (path_vertices s t at)) 0 18)) (path_head_fault s t at copies)
+  -- the test that walking along the vertices is
+  abbrev right_path : Bool
+  right_path = all_below (vertex_count s) (path_vertices s t at) && is_path (graph_of s) (path_vertices s t at)
+
+  fault_split : path_fault s t at before copies ≡ cond (eqb (path_head_fault s t at copies) 0) (cond (not right_path) 16 (cond (list_before before (path_vertices s t at)) 0 18)) (path_head_fault s t at copies)
   unfolding path_fault path_head_fault
-  fault_split =
-      first_decides (ltb (length t) (path_vertices_at s at)) (eqb (path_length s t at) 0 || ltb (max_path_length s) (path_length s t at))
-      (ltb (length t) (path_end s t at))
-      (eqb (path_weight t at) 0 || ltb (max_weight s) (copies + path_weight t at))
-      (cond (not (all_below (vertex_count s) (path_vertices s t at) && is_path (graph_of s) (path_vertices s t at))) 16
-      (cond (list_before before (path_vertices s t at)) 0 18))
+  fault_split = grind (arith, nat_tests)
 
   pub fault_head : (fault : ℕ) → fault ≡ path_head_fault s t at copies → (fault ≡ 0 → ⊥) → fault ≡ path_fault s t at before copies
   fault_head fault e wrong = e ∙ sym (fault_split ∙ simp (ne_eqb (path_head_fault s t at copies) 0 (λ z. wrong (e ∙ z))))
 
-  module _ (head : path_head_fault s t at copies ≡ 0) where
-    pub fault_walk : (all_below (vertex_count s) (path_vertices s t at) && is_path (graph_of s) (path_vertices s t at)) ≡ false → 16 ≡ path_fault s t at before copies
-    fault_walk e = sym (fault_split ∙ simp (eq-eqb _ _ head, e))
-
-    module _ (walks : (all_below (vertex_count s) (path_vertices s t at) && is_path (graph_of s) (path_vertices s t at)) ≡ true) where
-      pub fault_order : list_before before (path_vertices s t at) ≡ false → 18 ≡ path_fault s t at before copies
-      fault_order e = sym (fault_split ∙ simp (eq-eqb _ _ head, walks, e))
-
-      pub fault_none : list_before before (path_vertices s t at) ≡ true → 0 ≡ path_fault s t at before copies
-      fault_none e = sym (fault_split ∙ simp (eq-eqb _ _ head, walks, e))
-
--- what reading a record gives, where it is refused and where it is not
-module _ (s t : List ℕ) (at : ℕ) (before : List ℕ) (copies : ℕ) where
+  -- what reading a record gives, where it is refused and where it is not
   pub record_refused : {vb va ab aa : List ℕ} {mb ma : List Bool} {fault : ℕ} → fault ≡ path_fault s t at before copies → (fault ≡ 0 → ⊥) → PathRead s t at before copies vb va ab aa mb ma fault 0
   record_refused e wrong = record { is_fault = e; tallied = λ z. absurd (wrong z) }
 
-  module _ (head : PathHead s t at copies) (headed : path_head_fault s t at copies ≡ 0) {w l b : ℕ} (weighs : w ≡ path_weight t at) (counts : l ≡ path_length s t at) (stands : b ≡ path_vertices_at s at) where
-    same_path_lem : part t b l ≡ path_vertices s t at
-    same_path_lem = rw (stands, counts)
+  module _ (head : PathHead s t at copies) (headed : 0 ≡ path_head_fault s t at copies) {w : ℕ} (weighs : w ≡ path_weight t at) {p : List ℕ} (same : p ≡ path_vertices s t at) {vb va ab aa : List ℕ} {ok : Bool} {cost : ℕ} (walked : PathWalked s p w vb va ab aa ok cost) where
+    pub record_no_path : {mb ma : List Bool} → ok ≡ false → PathRead s t at before copies vb va ab aa mb ma 16 0
+    record_no_path e = record_refused (sym (fault_split ∙ simp (eq-eqb _ _ (sym headed), rw same at (sym walked.is_right ∙ e)))) (λ z. omega arith)
 
-    module _ {vb va ab aa : List ℕ} {ok : Bool} {cost : ℕ} (walked : PathWalked s (part t b l) w vb va ab aa ok cost) where
-      pub record_no_path : {mb ma : List Bool} → ok ≡ false → PathRead s t at before copies vb va ab aa mb ma 16 0
-      record_no_path e =
-          record_refused (fault_walk s t at before copies headed (rw same_path_lem at (sym walked.is_right ∙ e))) (λ z. omega arith)
+    module _ (is_a_path : ok ≡ true) where
+      walks : right_path ≡ true
+      walks = rw same at (sym walked.is_right ∙ is_a_path)
 
-      module _ (is_a_path : ok ≡ true) where
-        walks : (all_below (vertex_count s) (path_vertices s t at) && is_path (graph_of s) (path_vertices s t at)) ≡ true
-        walks = rw same_path_lem at (sym walked.is_right ∙ is_a_path)
+      module _ {o : Bool} (ordered : o ≡ not (list_before before p)) where
+        order : o ≡ not (list_before before (path_vertices s t at))
+        order = rw same at ordered
 
-        module _ {o : Bool} (ordered : o ≡ list_before before (part t b l)) where
-          pub record_no_order : {mb ma : List Bool} → o ≡ false → PathRead s t at before copies vb va ab aa mb ma 18 0
-          record_no_order e =
-              record_refused (fault_order s t at before copies headed walks (rw same_path_lem at (sym ordered ∙ e))) (λ z. omega arith)
+        pub record_no_order : {mb ma : List Bool} → o ≡ true → PathRead s t at before copies vb va ab aa mb ma 18 0
+        record_no_order e = record_refused (sym (fault_split ∙ simp (eq-eqb _ _ (sym headed), walks, not-true _ (sym order ∙ e)))) (λ z. omega arith)
 
-          pub record_right : {mb ma : List Bool} → o ≡ true → ReadsMet s (part t b l) mb ma → PathRead s t at before copies vb va ab aa mb ma 0 cost
-          record_right e marked =
-              record {
-                is_fault = fault_none s t at before copies headed walks (rw same_path_lem at (sym ordered ∙ e));
-                tallied =
-                    λ z.
-                    record {
-                      head = head;
-                      grown = rw (same_path_lem, weighs) at (walked.grown is_a_path);
-                      marked = rw same_path_lem at marked;
-                      costs = rw same_path_lem at (walked.costs is_a_path);
-                      low_cost = walked.low_cost is_a_path;
-                    };
-              }
+        pub record_right : {mb ma : List Bool} → o ≡ false → ReadsMet s p mb ma → PathRead s t at before copies vb va ab aa mb ma 0 cost
+        record_right e marked =
+            record {
+              is_fault = sym (fault_split ∙ simp (eq-eqb _ _ (sym headed), walks, not-false _ (sym order ∙ e)));
+              tallied =
+                  λ z.
+                  record {
+                    head = head;
+                    grown = rw (same, weighs) at (walked.grown is_a_path);
+                    marked = rw same at marked;
+                    costs = rw same at (walked.costs is_a_path);
+                    low_cost = walked.low_cost is_a_path;
+                  };
+            }
+
+-- the bytes between the places where the vertices of a path begin and end are those vertices
+pub path_slice : (s t : List ℕ) (at : ℕ) {a b : ℕ} → a ≡ path_vertices_at s at → b ≡ path_end s t at → take (b - a) (drop a t) ≡ path_vertices s t at
+unfolding part
+path_slice s t at e f =
+    let long : path_end s t at - path_vertices_at s at ≡ path_length s t at = omega arith in
+    rw (e, f, long)
+
+pub path_slice_long : {s t : List ℕ} {at copies : ℕ} → PathHead s t at copies → {a b : ℕ} → a ≡ path_vertices_at s at → b ≡ path_end s t at → length (take (b - a) (drop a t)) ≡ path_length s t at
+path_slice_long {s} {t} {at} head e f = ap length (path_slice s t at e f) ∙ part_length t (path_vertices_at s at) (path_length s t at) head.whole
 
 pub room_for : {s vb ab : List ℕ} {w : ℕ} → TotalsFit s vb ab 0 (2 * room_vertices) → w ≤ max_weight s → TotalsFit s vb ab w (2 * room_vertices)
 room_for room h =
@@ -161,10 +108,10 @@ abbrev pub most_price : ℕ
 most_price = max_opening + max_cost * room_vertices
 
 -- The records before at are tallied. With what the records from at on add, the tallies are those of all, and these records decide.
-pub record PathsLeft (s t vl al : List ℕ) (met : List Bool) (p lp copies cost left at : ℕ) : Type 0 where
-  pub within : (at ≤ length t) × (p + lp ≤ length t) × (copies ≤ max_weight s) × (cost ≤ copies * most_price)
+pub record PathsLeft (s t vl al : List ℕ) (met : List Bool) (before : List ℕ) (copies cost left at : ℕ) : Type 0 where
+  pub within : (at ≤ length t) × (copies ≤ max_weight s) × (cost ≤ copies * most_price)
   pub long : (length vl ≡ room_vertices) × (length al ≡ room_arcs) × (length met ≡ room_reads)
-  pub decide : paths_verdict s t (path_count t) (first_path_at s) [] 0 nothing_refused ≡ paths_verdict s t left at (part t p lp) copies nothing_refused
+  pub decide : paths_verdict s t (path_count t) (first_path_at s) [] 0 nothing_refused ≡ paths_verdict s t left at before copies nothing_refused
   pub vertices : (v : ℕ) → v < room_vertices → get_or vl v 0 + total (vert v) (paths_from s t left at) ≡ total (vert v) (cover_of s t)
   pub vertices_low : (v : ℕ) → v < room_vertices → get_or vl v 0 ≤ 2 * room_vertices * copies
   pub arcs : (k : ℕ) → k < arc_count s → get_or al k 0 + total (arc_item s k) (paths_from s t left at) ≡ total (arc_item s k) (cover_of s t)
@@ -172,19 +119,19 @@ pub record PathsLeft (s t vl al : List ℕ) (met : List Bool) (p lp copies cost 
   pub reads : (r : ℕ) → r < read_count s → (get_or met r false || some_holds (paths (paths_from s t left at)) (read_of s r)) ≡ some_holds (paths (cover_of s t)) (read_of s r)
   pub costs : pos cost +ℤ price whole (graph_of s) (paths_from s t left at) ≡ price whole (graph_of s) (cover_of s t)
 
-pub paths_begin : {s t vl al : List ℕ} {met : List Bool} {left at : ℕ} → Reads s → first_path_at s ≤ length t → NothingTallied vl al met → left ≡ path_count t → at ≡ first_path_at s → PathsLeft s t vl al met 0 0 0 0 left at
+pub paths_begin : {s t vl al : List ℕ} {met : List Bool} {copies cost left at : ℕ} → Reads s → first_path_at s ≤ length t → NothingTallied vl al met × (copies ≡ 0) × (cost ≡ 0) → left ≡ path_count t → at ≡ first_path_at s → PathsLeft s t vl al met [] copies cost left at
 unfolding cover_of
-paths_begin {s} {t} {vl} {al} {met} {left} {at} reads fits none e f =
+paths_begin {s} {t} {vl} {al} {met} {copies} {cost} {left} {at} reads fits (none, no_copies, no_cost) e f =
     record {
       within = omega arith;
       long = (none.vertices_long, none.arcs_long, none.reads_long);
-      decide = rw (e, f, part_none);
+      decide = rw (e, f, no_copies);
       vertices = λ v l. rw (none.vertices v, e, f, zero-add);
       vertices_low = λ v l. omega (arith, none.vertices v);
       arcs = λ k l. rw (none.arcs k, e, f, zero-add);
       arcs_low = λ k l. omega (arith, none.arcs k);
       reads = λ r l. rw (none.reads r, e, f);
-      costs = rw (e, f) (+ℤ_idl _);
+      costs = rw (e, f, no_cost) (+ℤ_idl _);
     }
 
 -- one copy's price, weight times
@@ -227,26 +174,26 @@ or_none : (x : Bool) → (x || false) ≡ x
 or_none true = refl
 or_none false = refl
 
-module _ {s t vl al : List ℕ} {met : List Bool} {p lp copies cost left at : ℕ} (inv : PathsLeft s t vl al met p lp copies cost left at) where
+module _ {s t vl al : List ℕ} {met : List Bool} {before : List ℕ} {copies cost left at : ℕ} (inv : PathsLeft s t vl al met before copies cost left at) where
   pub paths_room : TotalsFit s vl al 0 (2 * room_vertices)
   paths_room =
       record {
         low_weight = omega arith;
         vertices_long = inv.long.0;
         arcs_long = inv.long.1;
-        vertices_low = λ v l. omega (arith, inv.vertices_low v l, inv.within.2);
-        arcs_low = λ k l. omega (arith, inv.arcs_low k l, inv.within.2);
+        vertices_low = λ v l. omega (arith, inv.vertices_low v l, inv.within.1);
+        arcs_low = λ k l. omega (arith, inv.arcs_low k l, inv.within.1);
       }
 
   -- a record that is refused decides
-  pub paths_stop : {va aa : List ℕ} {ma : List Bool} {fault : ℕ} → 0 < left → fault ≡ path_fault s t at (part t p lp) copies → (fault ≡ 0 → ⊥) → PathsRead s t va aa ma fault at 0
+  pub paths_stop : {va aa : List ℕ} {ma : List Bool} {fault told : ℕ} → 0 < left → fault ≡ path_fault s t at before copies → (fault ≡ 0 → ⊥) → PathsRead s t va aa ma fault at told
   paths_stop {fault = fault} more e wrong =
       record {
         verdict =
             rw e
             (sym
-            (inv.decide ∙ verdict_split s t left at (part t p lp) copies more
-            ∙ simp (ne_eqb (path_fault s t at (part t p lp) copies) 0 (λ z. wrong (e ∙ z)))));
+            (inv.decide ∙ verdict_split s t left at before copies more
+            ∙ simp (ne_eqb (path_fault s t at before copies) 0 (λ z. wrong (e ∙ z)))));
         tallied = λ z. absurd (wrong z);
       }
 
@@ -255,10 +202,10 @@ module _ {s t vl al : List ℕ} {met : List Bool} {p lp copies cost left at : �
     none = omega arith
 
     -- bytes remain
-    pub paths_remain : at < length t → PathsRead s t vl al met 15 at 0
+    pub paths_remain : at < length t → PathsRead s t vl al met 15 at cost
     paths_remain h =
         record {
-          verdict = sym (inv.decide ∙ rw none (verdict_remain s t at (part t p lp) copies h));
+          verdict = sym (inv.decide ∙ rw none (verdict_remain s t at before copies h));
           tallied = λ z. absurd (omega arith);
         }
 
@@ -266,7 +213,7 @@ module _ {s t vl al : List ℕ} {met : List Bool} {p lp copies cost left at : �
     pub paths_end : length t ≤ at → Reads s → PathsRead s t vl al met 0 0 cost
     paths_end h reads =
         record {
-          verdict = sym (inv.decide ∙ rw none (verdict_end s t at (part t p lp) copies h));
+          verdict = sym (inv.decide ∙ rw none (verdict_end s t at before copies h));
           tallied =
               λ z.
               record {
@@ -277,7 +224,7 @@ module _ {s t vl al : List ℕ} {met : List Bool} {p lp copies cost left at : �
               };
         }
 
-  module _ (more : 0 < left) {va aa : List ℕ} {ma : List Bool} {c : ℕ} (done : Recorded s t at copies vl va al aa met ma c) (right : path_fault s t at (part t p lp) copies ≡ 0) where
+  module _ (more : 0 < left) {va aa : List ℕ} {ma : List Bool} {c : ℕ} (done : Recorded s t at copies vl va al aa met ma c) (right : path_fault s t at before copies ≡ 0) where
     split : paths_from s t left at ≡ path_of s t at ∷ paths_from s t (left - 1) (path_end s t at)
     split = paths_split s t left at more
 
@@ -296,12 +243,12 @@ module _ {s t vl al : List ℕ} {met : List Bool} {p lp copies cost left at : �
         ∙ ap (λ W. pos cost +ℤ price whole (graph_of s) W) (sym split)
         ∙ inv.costs
 
-    turned : opening_price s ≤ max_opening → PathsLeft s t va aa ma (path_vertices_at s at) (path_length s t at) (copies + path_weight t at) (cost + path_weight t at * (opening_price s + c)) (left - 1) (path_end s t at)
+    turned : opening_price s ≤ max_opening → PathsLeft s t va aa ma (path_vertices s t at) (copies + path_weight t at) (cost + path_weight t at * (opening_price s + c)) (left - 1) (path_end s t at)
     turned low =
         record {
           within = omega (arith, done.head, price_low (path_weight t at) (opening_price s) low, inv.within);
           long = (done.grown.vertices_long, done.grown.arcs_long, done.marked.long);
-          decide = inv.decide ∙ verdict_split s t left at (part t p lp) copies more ∙ simp (eq-eqb _ _ right);
+          decide = inv.decide ∙ verdict_split s t left at before copies more ∙ simp (eq-eqb _ _ right);
           vertices = λ v l. ap (λ x. x + total (vert v) (paths_from s t (left - 1) (path_end s t at))) (done.grown.vertices v l) ∙ add_assoc _ _ _ ∙ (rw split at (inv.vertices v l));
           vertices_low = λ v l. omega (arith, done.grown.vertices v l, few (vert v), inv.vertices_low v l);
           arcs = λ k l. ap (λ x. x + total (arc_item s k) (paths_from s t (left - 1) (path_end s t at))) (done.grown.arcs k l) ∙ add_assoc _ _ _ ∙ (rw split at (inv.arcs k l));
@@ -311,12 +258,9 @@ module _ {s t vl al : List ℕ} {met : List Bool} {p lp copies cost left at : �
         }
 
     -- the next record, from what the code has read
-    pub paths_turn : {w l b o : ℕ} → w ≡ path_weight t at → l ≡ path_length s t at → b ≡ path_vertices_at s at → o ≡ opening_price s → opening_price s ≤ max_opening → PathsLeft s t va aa ma b l (copies + w) (cost + w * (o + c)) (left - 1) (b + l)
-    paths_turn weighs counts stands opens low = rw (stands, weighs, counts, opens) (turned low)
-
--- the same, told by a result that has these numbers
-pub paths_told : {s t vl al : List ℕ} {met : List Bool} {number place cost n q k : ℕ} → (number ≡ n) × (place ≡ q) × (cost ≡ k) → PathsRead s t vl al met n q k → PathsRead s t vl al met number place cost
-paths_told e h = rw (e.0, e.1, e.2) h
+    pub paths_turn : {w o a b next copies' cost' : ℕ} → (copies' ≡ copies) × (cost' ≡ cost) → w ≡ path_weight t at → o ≡ opening_price s → opening_price s ≤ max_opening → a ≡ path_vertices_at s at → b ≡ path_end s t at → next ≡ left - 1
+        → PathsLeft s t va aa ma (take (b - a) (drop a t)) (copies' + w) (cost' + w * (o + c)) next b
+    paths_turn kept weighs opens low begins ends next = rw (kept.0, kept.1, path_slice s t at begins ends, weighs, opens, next, ends) (turned low)
 
 -- nothing is tallied in arrays as they are made
 pub nothing_tallied : NothingTallied (replicate room_vertices 0) (replicate room_arcs 0) (replicate room_reads false)

@@ -1,11 +1,6 @@
 -- "Paths strictly ascend as lists of numbers; a list comes before its own extensions": this order is strict, so paths that ascend from one to the next are distinct.
-use Prim.Native.Nat.{ℕ, ◌<◌}
-use native.Mathlib.Omega.{arith}
-use mathlib.Core.Path.{◌≡◌, sym, subst}
-use mathlib.Core.List.{List, [], ◌∷◌}
-use mathlib.Core.Bool.{◌&&◌}
-use mathlib.Core.Logic.{◌⊎◌, inl, inr}
-use lib.Dec.{T, ltb, eqb, ltb→lt, lt→ltb, eqb→eq, eqb_refl}
+use Rattle.std.proofs.Common.{ℕ, ◌<◌, arith, ◌≡◌, sym, subst, List, [], ◌∷◌, ◌&&◌, ◌⊎◌, inl, inr, T, ltb, eqb, ltb→lt, lt→ltb, eqb→eq}
+use lib.Dec.{eqb_refl}
 use Rattle.mathematics.specs.Lists.{All, Distinct}
 use Rattle.mathematics.proofs.Basics.{and_l, and_r, and_in, or_cases, or_l, or_r, all_weaken}
 use Rattle.forms.specs.AnswerFaults.{list_before}

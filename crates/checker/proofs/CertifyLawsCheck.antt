@@ -1,14 +1,6 @@
 -- The whole check from its stages: numbers 19 to 22 as the code finds them are the certificate's verdict, and what the stages before give is what it asks.
-use Prim.Native.Nat.{ℕ, zero, suc, ◌+◌, ◌*◌, ◌<◌, ◌≤◌}
-use native.Mathlib.Nat.{add-zero, zero-add}
-use native.Mathlib.Omega.{arith}
-use mathlib.Core.Path.{◌≡◌, refl, sym, ap, ap₂, ◌∙◌}
-use mathlib.Core.List.{List, ◌++◌, map}
-use mathlib.Core.Bool.{Bool, true, false, cond, not, ◌&&◌}
-use lib.Dec.{leb, eqb}
-use lib.ListN.{length, get_or}
-use lib.IntN.{pos}
-use borrow.Author.Tests.{eqb-true, eqb-false, le-leb, leb-true, eq-eqb, ne_eqb}
+use Rattle.std.proofs.Common.{ℕ, zero, suc, ◌+◌, ◌*◌, ◌<◌, ◌≤◌, add-zero, zero-add, arith, ◌≡◌, refl, sym, ap, ap₂, ◌∙◌, List, ◌++◌, map, Bool, true, false, cond, not, ◌&&◌, leb, eqb, length, get_or, pos, eqb-true, le-leb, leb-true, eq-eqb, ne_eqb}
+use borrow.Author.Tests.{eqb-false}
 use Rattle.mathematics.specs.Price.{whole}
 use Rattle.mathematics.specs.Bound.{bound}
 use Rattle.mathematics.specs.Cover.{vertex_asks, arc_ask}
@@ -19,13 +11,15 @@ use Rattle.forms.specs.GraphFaults.{refusal, nothing_refused, then, first_fault}
 use Rattle.forms.specs.GraphForm.{vertex_count, arc_count, read_count, first_read_at}
 use Rattle.forms.specs.GraphOf.{vertex_of, arc_of, arcs_of, reads_from, graph_of}
 use Rattle.forms.specs.Layout.{price_parts}
+use Rattle.forms.specs.Refusals.{number_of}
+use Rattle.forms.specs.declared.refusals.Refused.{Refused}
 use Rattle.checker.specs.Tallies.{Tallied}
 use Rattle.checker.specs.Check.{same_price, demands_verdict, reads_met_verdict, vertex_slacks_verdict, arc_slacks_verdict, certificate_verdict}
 use Rattle.certify.specs.Certify.{arc_place, read_place, vertex_unmet, arc_unmet, read_unmet, vertex_slack_fault, arc_slack_fault, unmet_verdict, slacks_verdict, MarksStand, NoneBelow}
 use Rattle.checker.proofs.Accepted.{earlier_first, fault_refused}
 use Rattle.forms.proofs.LayoutLaws.{parts_few, mark_first, mark_next, mark_before, marks_end}
 use Rattle.forms.proofs.RightLaws.{each_right}
-use Rattle.forms.proofs.ThenLaws.{then_refused, then_passed}
+use Rattle.forms.proofs.ThenLaws.{then_err, then_ok}
 use Rattle.forms.proofs.GraphFacts.{length_tabulate, length_reads}
 use Rattle.checker.proofs.CertifyLawsVerdict.{demands_of_vertices, demands_of_arcs, reads_are_met, slacks_of_vertices, slacks_of_arcs}
 
@@ -114,31 +108,26 @@ module _ (s t vertex_totals arc_totals : List ℕ) (met : List Bool) (cost : ℕ
       unmet_is _ ∙ ap (then (unmet_verdict s vertex_totals arc_totals met))
       (ap₂ (λ x y. cond (not x) (refusal 20 0) y) (ap (λ p. same_price whole p (pos (stated_price s t))) (sym w.costs) ∙ same_number cost (stated_price s t)) (slacks_are s t _))
 
-  module _ {unmet : Verdict} (e : unmet ≡ unmet_verdict s vertex_totals arc_totals met) where
-    pub some_unmet : (unmet.number ≡ 0 → ⊥) → unmet ≡ certificate_verdict whole (graph_of s) (cover_of s t) (pos (stated_price s t)) (answer_marks s t)
-    some_unmet h = then_refused _ e h ∙ sym certificate_is
+  pub some_unmet : (r : Refused) → refusal (number_of r.fault) r.place ≡ unmet_verdict s vertex_totals arc_totals met → refusal (number_of r.fault) r.place ≡ certificate_verdict whole (graph_of s) (cover_of s t) (pos (stated_price s t)) (answer_marks s t)
+  some_unmet r e = then_err r _ e ∙ sym certificate_is
 
-    module _ (all_met : unmet.number ≡ 0) where
-      pub price_differs : (cost ≡ stated_price s t → ⊥) → refusal 20 0 ≡ certificate_verdict whole (graph_of s) (cover_of s t) (pos (stated_price s t)) (answer_marks s t)
-      price_differs h = then_passed e all_met (simp (ne_eqb cost (stated_price s t) h)) ∙ sym certificate_is
+  module _ (e : nothing_refused ≡ unmet_verdict s vertex_totals arc_totals met) where
+    pub price_differs : (cost ≡ stated_price s t → ⊥) → refusal 20 0 ≡ certificate_verdict whole (graph_of s) (cover_of s t) (pos (stated_price s t)) (answer_marks s t)
+    price_differs h = then_ok e (simp (ne_eqb cost (stated_price s t) h)) ∙ sym certificate_is
 
-      module _ (same : cost ≡ stated_price s t) {slacks : Verdict} (d : slacks ≡ slacks_verdict s t) where
-        pub slack_below : (slacks.number ≡ 0 → ⊥) → slacks ≡ certificate_verdict whole (graph_of s) (cover_of s t) (pos (stated_price s t)) (answer_marks s t)
-        slack_below h = then_passed e all_met (simp (eq-eqb cost (stated_price s t) same) (then_refused _ d h)) ∙ sym certificate_is
+    module _ (same : cost ≡ stated_price s t) where
+      pub slack_below : (r : Refused) → refusal (number_of r.fault) r.place ≡ slacks_verdict s t → refusal (number_of r.fault) r.place ≡ certificate_verdict whole (graph_of s) (cover_of s t) (pos (stated_price s t)) (answer_marks s t)
+      slack_below r d = then_ok e (simp (eq-eqb cost (stated_price s t) same) (then_err r _ d)) ∙ sym certificate_is
 
-        module _ (none : slacks.number ≡ 0) {b : ℕ} (is : pos b ≡ bound whole (graph_of s) (answer_marks s t)) where
-          bound_test : same_price whole (bound whole (graph_of s) (answer_marks s t)) (pos (stated_price s t)) ≡ eqb b (stated_price s t)
-          bound_test = ap (λ x. same_price whole x (pos (stated_price s t))) (sym is) ∙ same_number b (stated_price s t)
+      module _ (d : nothing_refused ≡ slacks_verdict s t) {b : ℕ} (is : pos b ≡ bound whole (graph_of s) (answer_marks s t)) where
+        bound_test : same_price whole (bound whole (graph_of s) (answer_marks s t)) (pos (stated_price s t)) ≡ eqb b (stated_price s t)
+        bound_test = ap (λ x. same_price whole x (pos (stated_price s t))) (sym is) ∙ same_number b (stated_price s t)
 
-          pub bound_differs : (b ≡ stated_price s t → ⊥) → refusal 22 0 ≡ certificate_verdict whole (graph_of s) (cover_of s t) (pos (stated_price s t)) (answer_marks s t)
-          bound_differs h =
-              then_passed e all_met
-              (simp (eq-eqb cost (stated_price s t) same) (then_passed d none (simp (bound_test, ne_eqb b (stated_price s t) h)))) ∙ sym certificate_is
+        pub bound_differs : (b ≡ stated_price s t → ⊥) → refusal 22 0 ≡ certificate_verdict whole (graph_of s) (cover_of s t) (pos (stated_price s t)) (answer_marks s t)
+        bound_differs h = then_ok e (simp (eq-eqb cost (stated_price s t) same) (then_ok d (simp (bound_test, ne_eqb b (stated_price s t) h)))) ∙ sym certificate_is
 
-          pub all_certified : b ≡ stated_price s t → nothing_refused ≡ certificate_verdict whole (graph_of s) (cover_of s t) (pos (stated_price s t)) (answer_marks s t)
-          all_certified h =
-              then_passed e all_met
-              (simp (eq-eqb cost (stated_price s t) same) (then_passed d none (simp (bound_test, eq-eqb b (stated_price s t) h)))) ∙ sym certificate_is
+        pub all_certified : b ≡ stated_price s t → nothing_refused ≡ certificate_verdict whole (graph_of s) (cover_of s t) (pos (stated_price s t)) (answer_marks s t)
+        all_certified h = then_ok e (simp (eq-eqb cost (stated_price s t) same) (then_ok d (simp (bound_test, eq-eqb b (stated_price s t) h)))) ∙ sym certificate_is
 
 -- where no slack is refused, none is below 0
 pub none_below : (s t : List ℕ) → (slacks_verdict s t).number ≡ 0 → NoneBelow s t

@@ -1,13 +1,7 @@
 -- Completeness of the checker: for every lowest-price cover within the answer form's limits there are marks with which its answer form is accepted, and where
 -- a cover exists some answer form is accepted. Document 01 shuts out by name "a builder or checker that refuses always (.. demand 3's acceptance of every
 -- lowest-price cover)".
-use Prim.Native.Nat.{ℕ, zero, suc, ◌+◌, ◌*◌, ◌≤◌, ◌<◌}
-use native.Mathlib.Omega.{arith}
-use mathlib.Core.Path.{◌≡◌, refl, sym, ap, subst, subst₂, ◌∙◌}
-use mathlib.Core.List.{List, [], ◌∷◌, ◌++◌}
-use lib.Dec.{T}
-use lib.ListN.{length, length-append}
-use lib.IntN.{ℤ, pos}
+use Rattle.std.proofs.Common.{ℕ, zero, suc, ◌+◌, ◌*◌, ◌≤◌, ◌<◌, arith, ◌≡◌, refl, sym, ap, subst, subst₂, ◌∙◌, List, [], ◌∷◌, ◌++◌, T, length, length-append, ℤ, pos}
 use lib.Signed.{le_z}
 use Rattle.mathematics.specs.Price.{whole}
 use Rattle.mathematics.specs.Lists.{All}

@@ -1,17 +1,7 @@
 -- Each public call's promise determines its result: any two results allowed are equal. And the numbers that can come, and the place where nothing is refused.
 -- "Each public call's promise determines number, place and all bytes lent to it, for each input, refused or not"
-use Prim.Native.Nat.{ℕ, zero, suc, ◌+◌, ◌≤◌}
-use native.Mathlib.Omega.{arith}
-use mathlib.Core.Path.{◌≡◌, refl, sym, ap, ◌∙◌}
-use mathlib.Core.List.{List, [], ◌∷◌}
-use mathlib.Core.Bool.{Bool, true, false, cond, not, ◌&&◌, ◌||◌}
-use mathlib.Core.Logic.{◌⊎◌, inl, inr}
-use lib.Dec.{T, ltb, leb, eqb, leb→le}
-use denote.Ref.{Bor}
-use borrow.Author.Tests.{eq-eqb, lt-ltb}
+use Rattle.std.proofs.Common.{ℕ, zero, suc, ◌+◌, ◌≤◌, arith, ◌≡◌, refl, sym, ap, ◌∙◌, List, [], ◌∷◌, Bool, true, false, cond, not, ◌&&◌, ◌||◌, ◌⊎◌, inl, inr, T, ltb, leb, eqb, leb→le, Bor, eq-eqb, lt-ltb, length, pos, neg_ℤ}
 use Rattle.mathematics.proofs.Basics.{and_l, and_r}
-use lib.ListN.{length}
-use lib.IntN.{pos, neg_ℤ}
 use lib.Signed.{le_z}
 use Rattle.mathematics.specs.Price.{Prices, whole}
 use Rattle.mathematics.specs.Lists.{some_holds}
@@ -27,28 +17,35 @@ use Rattle.forms.specs.GraphOf.{graph_of}
 use Rattle.forms.specs.Layout.{max_paths, max_weight, answer_version_of, max_path_length}
 use Rattle.forms.specs.Limits.{mark_limit}
 use Rattle.checker.specs.Check.{same_price, demands_verdict, reads_met_verdict, vertex_slacks_verdict, arc_slacks_verdict, certificate_verdict, answer_verdict, check_verdict, hand_out_verdict, handed_out, handed_out_at}
-use Rattle.checker.specs.HandedOut.{PartFound}
+use Rattle.checker.specs.HandedOut.{PartFound, part_of}
+use Rattle.std.specs.Prelude.{Result}
 use Rattle.checker.specs.declared.check.PathPart.{PathPart}
+use Rattle.forms.specs.declared.refusals.Refused.{Refused}
+use Rattle.forms.specs.Refusals.{verdict_of}
+use Rattle.checker.proofs.Refusals.{same_result, same_verdict}
 use Rattle.checker.proofs.GraphReads.{number_to_seven}
 use Rattle.checker.proofs.Accepted.{number_zero_accepted, accepted_nothing_refused}
 use Rattle.checker.proofs.HandedOut.{number_zero_handed_out}
 
 -- the check: any two results that are the verdict are equal
-pub check_determined : (s t : List ℕ) (r r' : Verdict) → r ≡ check_verdict s t → r' ≡ check_verdict s t → r ≡ r'
-check_determined s t r r' e d = e ∙ sym d
+pub check_determined : (s t : List ℕ) (r r' : Result (Unit {0}) Refused) → verdict_of r ≡ check_verdict s t → verdict_of r' ≡ check_verdict s t → r ≡ r'
+check_determined s t r r' e d = same_verdict r r' (e ∙ sym d)
 
 -- the sister call of the hand-out
-pub hand_out_verdict_determined : (s t : List ℕ) (k : ℕ) (r r' : Verdict) → r ≡ hand_out_verdict s t k → r' ≡ hand_out_verdict s t k → r ≡ r'
-hand_out_verdict_determined s t k r r' e d = e ∙ sym d
+pub hand_out_verdict_determined : (s t : List ℕ) (k : ℕ) (r r' : Result (Unit {0}) Refused) → verdict_of r ≡ hand_out_verdict s t k → verdict_of r' ≡ hand_out_verdict s t k → r ≡ r'
+hand_out_verdict_determined s t k r r' e d = same_verdict r r' (e ∙ sym d)
 
--- the part by numbers
-pub find_path_determined : (s t : List ℕ) (k : ℕ) (r r' : PathPart) → PartFound s t k r.number r.place r.offset r.length →
-    PartFound s t k r'.number r'.place r'.offset r'.length → r ≡ r'
+-- the part by numbers: number, place, offset and length
+pub part_determined : {s t : List ℕ} {k number place offset count number' place' offset' count' : ℕ} → PartFound s t k number place offset count → PartFound s t k number' place' offset' count' →
+    (refusal number place ≡ refusal number' place') × (offset ≡ offset') × (count ≡ count')
+part_determined e d = (e.verdict ∙ sym d.verdict, e.begins ∙ sym d.begins, e.long ∙ sym d.long)
+
+pub find_path_determined : (s t : List ℕ) (k : ℕ) (r r' : Result PathPart Refused) → PartFound s t k (verdict_of r).number (verdict_of r).place (part_of r).offset (part_of r).length →
+    PartFound s t k (verdict_of r').number (verdict_of r').place (part_of r').offset (part_of r').length → r ≡ r'
 find_path_determined s t k r r' e d =
-    let v : refusal r.number r.place ≡ refusal r'.number r'.place = e.verdict ∙ sym d.verdict in
-    let offsets : r.offset ≡ r'.offset = e.begins ∙ sym d.begins in
-    let lengths : r.length ≡ r'.length = e.long ∙ sym d.long in
-    λ i. record { number = (v i).number; place = (v i).place; offset = offsets i; length = lengths i }
+    let same = part_determined e d in
+    let parts : part_of r ≡ part_of r' = λ i. record { offset = same.1 i; length = same.2 i } in
+    same_result r r' same.0 (λ a a' p q. sym (ap part_of p) ∙ parts ∙ ap part_of q)
 
 -- the part handed out: its bytes, and its place in memory, which is a block and an offset. The clauses are those of the call
 pub hand_out_determined : (s : List ℕ) (answer r r' : Bor (List ℕ)) (k : ℕ) →

@@ -1,15 +1,6 @@
 -- Reading back what `encode_answer` writes gives the same paths, price and marks; its length is stated rightly, and within the limits each entry is a byte.
-use Prim.Native.Nat.{ℕ, zero, suc, ◌+◌, ◌*◌, ◌-◌, ◌/◌, ◌%◌, ◌≤◌, ◌<◌}
-use native.Mathlib.Nat.{add_assoc, mul-suc, mul-le-mul_left}
-use native.Mathlib.Omega.{arith}
-use mathlib.Core.Path.{◌≡◌, refl, sym, ap, ap₂, ◌∙◌}
-use mathlib.Core.List.{List, [], ◌∷◌, ◌++◌, append_assoc}
-use mathlib.Core.Bool.{cond}
-use lib.Dec.{ltb, leb→le}
-use lib.ListN.{length, take, drop, length-append}
-use lib.Seq.{get_or-append-add, drop-append-add, take-append_seam}
-use lib.IntN.{ℤ, pos, negsuc, neg_ℤ}
-use borrow.Author.Tests.{lt-ltb, le-ltb}
+use Rattle.std.proofs.Common.{ℕ, zero, suc, ◌+◌, ◌*◌, ◌-◌, ◌/◌, ◌%◌, ◌≤◌, ◌<◌, add_assoc, mul-suc, mul-le-mul_left, arith, ◌≡◌, refl, sym, ap, ap₂, ◌∙◌, List, [], ◌∷◌, ◌++◌, append_assoc, cond, ltb, leb→le, length, take, drop, length-append, get_or-append-add, ℤ, pos, negsuc, neg_ℤ, lt-ltb, le-ltb}
+use lib.Seq.{drop-append-add, take-append_seam}
 use Rattle.mathematics.specs.Lists.{All}
 use Rattle.mathematics.specs.Cover.{Weighted}
 use Rattle.mathematics.specs.Bound.{Marks}

@@ -1,27 +1,22 @@
 -- Theorems on a graph form that reads: a verdict of 0 says exactly that document 01's conditions hold; the graph it stands for is well formed, its
 -- costs hold and its sizes are within "Numbers allowed"; any two answers that the reader's promise allows are equal.
-use Prim.Native.Nat.{ℕ, zero, suc, ◌+◌, ◌-◌, ◌<◌, ◌≤◌}
-use native.Mathlib.Omega.{arith}
-use mathlib.Core.Path.{◌≡◌, refl, sym, ap, ap₂, ◌∙◌}
-use mathlib.Core.List.{List}
-use mathlib.Core.Bool.{Bool, true, false, cond, not, ◌&&◌, ◌||◌}
-use mathlib.Core.Logic.{◌↔◌}
-use lib.Dec.{ltb, eqb, lit≤}
-use lib.ListN.{length}
-use borrow.Author.Tests.{ltb-false, le-ltb, eq-eqb, eqb-true, eqb-false}
+use Rattle.std.proofs.Common.{ℕ, zero, suc, ◌+◌, ◌-◌, ◌<◌, ◌≤◌, arith, ◌≡◌, refl, sym, ap, ◌∙◌, List, Bool, true, false, cond, not, ◌&&◌, ◌||◌, ◌↔◌, ltb, eqb, lit≤, length, ltb-false, le-ltb, eq-eqb, eqb-true}
+use borrow.Author.Tests.{eqb-false}
+use Rattle.std.proofs.lemmas.Bool.Decides.{nat_tests}
+use Rattle.std.specs.Prelude.{Result}
 use Rattle.forms.specs.declared.Verdict.{Verdict}
+use Rattle.forms.specs.declared.refusals.Refused.{Refused}
+use Rattle.forms.specs.Refusals.{verdict_of}
+use Rattle.checker.proofs.Refusals.{same_verdict}
 use Rattle.forms.specs.GraphFaults.{refusal, nothing_refused, then, header_verdict, first_fault, vertex_fault, ascends, arc_fault, vertices_verdict, arcs_verdict, walks, read_fault, reads_verdict, graph_verdict}
 use Rattle.forms.specs.GraphForm.{header_length, length_word, vertex_count_at, vertex_count, arc_count_at, arc_count, read_count_at, read_count, opening_price_at, opening_price, vertex_at, flags, vertex_demand, arc_length, arc_at, arc_tail, arc_head, arc_cost, arc_demand, first_read_at, read_length, read_vertices_at, read_vertices, read_end}
 use Rattle.forms.specs.GraphOf.{arcs_of}
-use Rattle.forms.specs.GraphReads.{VertexRight, ReadRight, ReadsRight, ArcsRight, Reads}
+use Rattle.forms.specs.GraphReads.{HeaderRight, VertexRight, ArcRight, ReadRight, ReadsRight, ArcsRight, Reads}
 use Rattle.forms.specs.Layout.{version_at, version, newest, max_vertices, max_arcs, max_reads, max_read_length, max_flag, vertex_length}
 use Rattle.forms.specs.Limits.{max_opening, max_cost, max_demand, min_read_length}
-use Rattle.checker.proofs.HeaderLaws.{header_right}
-use Rattle.checker.proofs.RecordLaws.{vertex_right, arc_last}
-use Rattle.checker.proofs.ReadLaws.{read_right}
 use Rattle.forms.proofs.RightLaws.{header_holds, vertex_holds, arcs_hold, read_holds, next_follows, before_follows, all_below_lem, each_right, all_right}
 use Rattle.forms.proofs.LayoutLaws.{vertex_next}
-use Rattle.forms.proofs.ThenLaws.{then_passed}
+use Rattle.forms.proofs.ThenLaws.{then_ok}
 use Rattle.mathematics.proofs.Basics.{is_true}
 
 -- no refusal by the first, and none after it
@@ -69,22 +64,32 @@ reads_of_zero s e =
     let vertices : (v : ℕ) → v < vertex_count s → VertexRight s v = λ v h. vertex_holds s v (each_right (vertex_fault s) _ (vertex_count s) 0 b.0 v (omega arith) (omega arith)) in
     record { arcs = arcs; vertices = vertices; reads = reads_hold s (read_count s) (first_read_at s) (records_whole s arcs vertices) c.1 }
 
+header_passes : (s : List ℕ) → HeaderRight s → nothing_refused ≡ header_verdict s
+unfolding header_verdict
+header_passes s h = grind (arith, nat_tests)
+
+vertex_passes : (s : List ℕ) (v : ℕ) → VertexRight s v → vertex_fault s v ≡ 0
+unfolding vertex_fault
+vertex_passes s v h = grind (arith, nat_tests)
+
 read_passes : (s : List ℕ) (at : ℕ) → ReadRight s at → read_fault s at ≡ 0
-unfolding walks
+unfolding read_fault walks
 read_passes s at r =
-    sym
-    (read_right s at r.begins r.not_short r.not_long r.whole refl refl
-    (ap₂ (λ x y. x && y) (sym (all_below_lem (vertex_count s) (read_vertices s at) r.inside)) (sym (is_true _ r.arcs))) refl)
+    let below = all_below_lem (vertex_count s) (read_vertices s at) r.inside in
+    let joined = is_true _ r.arcs in
+    grind (arith, nat_tests, below, joined)
 
 reads_pass : (s : List ℕ) (count at : ℕ) → ReadsRight s count at → nothing_refused ≡ reads_verdict s count at
 unfolding reads_verdict
 reads_pass s zero at e = simp (le-ltb at (length s) (omega arith))
 reads_pass s (suc count) at r = simp (eq-eqb (read_fault s at) 0 (read_passes s at r.0)) (reads_pass s count (read_end s at) r.1)
 
+arc_right : (s : List ℕ) (at : ℕ) → ArcRight s at → ascends s at ≡ true → arc_fault s at ≡ 0
+unfolding arc_fault
+arc_right s at r e = grind (arith, nat_tests)
+
 arc_passes : (s : List ℕ) → ArcsRight s → (a : ℕ) → a < arc_count s → arc_fault s (arc_at s a) ≡ 0
-arc_passes s right a h =
-    let r = right.each a h in
-    sym (arc_last s a r.whole r.low_cost r.low_demand r.rises r.inside (order a h))
+arc_passes s right a h = arc_right s (arc_at s a) (right.each a h) (order a h)
   where
     order : (a : ℕ) → a < arc_count s → ascends s (arc_at s a) ≡ true
     order zero h = simp (eq-eqb (arc_at s 0) (arc_at s 0) refl)
@@ -93,16 +98,10 @@ arc_passes s right a h =
 nothing_of_reads : (s : List ℕ) → Reads s → nothing_refused ≡ graph_verdict s
 unfolding graph_verdict
 nothing_of_reads s r =
-    let h = r.arcs.header in
-    then_passed
-    (header_right s h.long h.counted (λ z. omega (arith, h.known_version)) h.known_version.1 (λ z. omega (arith, h.some_vertex)) h.few_vertices h.few_arcs h.few_reads h.low_opening)
-    refl
-    (then_passed (all_right (vertex_fault s) (vertex_at s) (vertex_count s) 0 (λ k a b. vertex_passes k (omega arith))) refl
-    (then_passed (all_right (λ a. arc_fault s (arc_at s a)) (arc_at s) (arc_count s) 0 (λ k a b. arc_passes s r.arcs k (omega arith))) refl
+    then_ok (header_passes s r.arcs.header)
+    (then_ok (all_right (vertex_fault s) (vertex_at s) (vertex_count s) 0 (λ k a b. vertex_passes s k (r.vertices k (omega arith))))
+    (then_ok (all_right (λ a. arc_fault s (arc_at s a)) (arc_at s) (arc_count s) 0 (λ k a b. arc_passes s r.arcs k (omega arith)))
     (reads_pass s (read_count s) (first_read_at s) r.reads)))
-  where
-    vertex_passes : (v : ℕ) → v < vertex_count s → vertex_fault s v ≡ 0
-    vertex_passes v h = let x = r.vertices v h in sym (vertex_right s v x.whole x.a_flag x.low_demand)
 
 -- Document 01, the table's rows 1 to 7, "Given exactly when": nothing is refused exactly where the form reads.
 pub number_zero_iff_reads : (s : List ℕ) → ((graph_verdict s).number ≡ 0) ↔ Reads s
@@ -174,5 +173,5 @@ number_to_seven s =
     (low_then _ _ (low_records _ _ (λ a. low_arc s (arc_at s a)) (arc_count s) 0) (low_reads s (read_count s) (first_read_at s))))
 
 -- "Show that any two results allowed by a promise are equal."
-pub determined : (s : List ℕ) (r t : Verdict) → r ≡ graph_verdict s → t ≡ graph_verdict s → r ≡ t
-determined s r t p q = p ∙ sym q
+pub determined : (s : List ℕ) (r r' : Result (Unit {0}) Refused) → verdict_of r ≡ graph_verdict s → verdict_of r' ≡ graph_verdict s → r ≡ r'
+determined s r r' e d = same_verdict r r' (e ∙ sym d)

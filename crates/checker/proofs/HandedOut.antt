@@ -1,14 +1,6 @@
 -- The hand-out: where nothing is refused, what is handed out is the path of that number in a lowest-price cover and a part of the answer; else it is empty.
 -- "it gives the vertex bytes of that path as a part of the answer, or an empty part where the checker would refuse or 23 holds"
-use Prim.Native.Nat.{ℕ, zero, suc, ◌+◌, ◌-◌, ◌≤◌, ◌<◌}
-use native.Mathlib.Omega.{arith}
-use mathlib.Core.Path.{◌≡◌, refl, sym, ap, subst, ◌∙◌}
-use mathlib.Core.List.{List, []}
-use mathlib.Core.Bool.{Bool, true, false, cond}
-use lib.Dec.{ltb, eqb, ltb→lt}
-use lib.ListN.{length, get_or, take, drop, length-drop}
-use lib.Seq.{length-take-le}
-use borrow.Author.Tests.{eqb-true, eq-eqb, ne_eqb}
+use Rattle.std.proofs.Common.{ℕ, zero, suc, ◌+◌, ◌-◌, ◌≤◌, ◌<◌, arith, ◌≡◌, refl, sym, ap, subst, ◌∙◌, List, [], Bool, true, false, cond, ltb, eqb, ltb→lt, length, get_or, take, drop, length-drop, length-take-le, eqb-true, eq-eqb, ne_eqb}
 use Rattle.mathematics.specs.Cover.{Weighted}
 use Rattle.forms.specs.AnswerForm.{path_count, first_path_at, path_vertices_at, path_weight, path_length, path_vertices, path_end, path_of, paths_from, cover_of}
 use Rattle.forms.specs.Bytes.{part}

@@ -1,9 +1,5 @@
 -- The vertices of a path or a read are vertices of the graph, and since numbers rise a path has no more vertices than the graph.
-use Prim.Native.Nat.{ℕ, suc, ◌+◌, ◌≤◌, ◌<◌}
-use native.Mathlib.Omega.{arith}
-use mathlib.Core.List.{List, [], ◌∷◌}
-use lib.Dec.{T, ltb, lt→ltb}
-use lib.ListN.{length}
+use Rattle.std.proofs.Common.{ℕ, suc, ◌+◌, ◌≤◌, ◌<◌, arith, List, [], ◌∷◌, T, ltb, lt→ltb, length}
 use Rattle.mathematics.specs.Lists.{All, last_of}
 use Rattle.mathematics.specs.Graph.{Graph, WellFormed, linked, is_path}
 use Rattle.mathematics.proofs.Basics.{and_in}

@@ -1,7 +1,8 @@
 -- The laws that the proofs of the code cite, one for each way through a function, and the theorems on forms that read.
-pub mod HeaderLaws
+pub mod Refusals
 pub mod RecordLaws
 pub mod ReadLaws
+pub mod WalkAlong
 pub mod GraphReads
 pub mod AnswerLaws
 pub mod AnswerPaths

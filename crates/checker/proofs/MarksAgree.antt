@@ -1,11 +1,5 @@
 -- Slacks and bound use the marks of the graph's vertices and no others: marks that agree there have the same slacks and the same bound.
-use Prim.Native.Nat.{ℕ, suc, ◌+◌, ◌≤◌, ◌<◌}
-use native.Mathlib.Omega.{arith}
-use mathlib.Core.Path.{◌≡◌, refl, ap, ap₂, subst}
-use mathlib.Core.List.{List, [], ◌∷◌}
-use mathlib.Core.Bool.{true, cond, ◌&&◌}
-use lib.Dec.{T}
-use lib.ListN.{length}
+use Rattle.std.proofs.Common.{ℕ, suc, ◌+◌, ◌≤◌, ◌<◌, arith, ◌≡◌, refl, ap, ap₂, subst, List, [], ◌∷◌, true, cond, ◌&&◌, T, length}
 use Rattle.mathematics.specs.Price.{Prices, sub, times}
 use Rattle.mathematics.specs.Lists.{All, last_of}
 use Rattle.mathematics.specs.Graph.{Vertex, Arc, Graph, WellFormed, Rises, linked}

@@ -1,12 +1,5 @@
 -- Where opening price and arc costs are plain numbers in range, so is the price of weighted paths: no more than the copies times the dearest copy.
-use Prim.Native.Nat.{ℕ, zero, suc, ◌+◌, ◌*◌, ◌≤◌}
-use native.Mathlib.Nat.{suc-mul, add-mul, mul-le-mul, le_refl}
-use native.Mathlib.Omega.{arith}
-use mathlib.Core.Path.{refl, ap₂}
-use mathlib.Core.List.{List, [], ◌∷◌}
-use mathlib.Core.Bool.{Bool, true, false, cond}
-use lib.ListN.{length}
-use lib.IntN.{ℤ, pos, ◌+ℤ◌}
+use Rattle.std.proofs.Common.{ℕ, zero, suc, ◌+◌, ◌*◌, ◌≤◌, suc-mul, add-mul, mul-le-mul, le_refl, arith, refl, ap₂, List, [], ◌∷◌, Bool, true, false, cond, length, ℤ, pos, ◌+ℤ◌}
 use Rattle.mathematics.specs.Price.{whole, times}
 use Rattle.mathematics.specs.Lists.{All}
 use Rattle.mathematics.specs.Graph.{Arc, Graph, joins}

@@ -1,14 +1,6 @@
 -- Document 01, "Numbers to hold against the definitions": the marked rows, from the definitions, as one table under one theorem. A row that names a price
 -- holds an answer form that is accepted, its paths and its price; by soundness no cover has a lower price.
-use Prim.Native.Nat.{ℕ, zero, suc, ◌≤◌, ◌<◌}
-use native.Mathlib.Omega.{arith}
-use mathlib.Core.Path.{◌≡◌, refl, subst, ap, ◌∙◌, sym}
-use mathlib.Core.List.{List, [], ◌∷◌}
-use mathlib.Core.Bool.{not, ◌||◌}
-use mathlib.Core.Logic.{inl, inr}
-use lib.Dec.{T, ltb, eqb, ltb→lt, T_not}
-use lib.ListN.{length, get_or, take}
-use lib.IntN.{ℤ, pos}
+use Rattle.std.proofs.Common.{ℕ, zero, suc, ◌≤◌, ◌<◌, arith, ◌≡◌, refl, subst, ap, ◌∙◌, sym, List, [], ◌∷◌, not, ◌||◌, inl, inr, T, ltb, eqb, ltb→lt, T_not, length, get_or, take, ℤ, pos}
 use Rattle.mathematics.specs.Price.{whole}
 use Rattle.mathematics.specs.Lists.{All}
 use Rattle.mathematics.specs.Graph.{Graph, linked}

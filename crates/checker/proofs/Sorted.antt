@@ -1,12 +1,6 @@
 -- A cover is a set: its paths put into ascending order are the same weighted paths, a cover of the same graph at the same price.
-use Prim.Native.Nat.{ℕ, ◌+◌, ◌*◌, ◌≤◌}
-use native.Mathlib.Omega.{arith}
-use mathlib.Core.Path.{◌≡◌, refl, sym, ap, ap₂, subst, ◌∙◌}
-use mathlib.Core.List.{List, [], ◌∷◌}
-use mathlib.Core.Bool.{Bool, true, false, cond}
-use mathlib.Core.Logic.{◌⊎◌, inl, inr, ◌≢◌, ◌↔◌}
-use lib.Dec.{T, ltb, ltb→lt, nltb→le, not_T}
-use lib.ListN.{length}
+use Rattle.std.proofs.Common.{ℕ, ◌+◌, ◌*◌, ◌≤◌, arith, ◌≡◌, refl, sym, ap, ap₂, subst, ◌∙◌, List, [], ◌∷◌, Bool, true, false, cond, ◌⊎◌, inl, inr, ◌≢◌, ◌↔◌, T, ltb, ltb→lt, nltb→le, length}
+use lib.Dec.{not_T}
 use Rattle.mathematics.specs.Price.{Prices, Le, Ordered}
 use Rattle.mathematics.specs.Lists.{All, Distinct, some_holds}
 use Rattle.mathematics.specs.Graph.{Graph, WellFormed, is_path}

@@ -1,12 +1,5 @@
 -- Soundness of the checker: an accepted answer's paths are a cover of the graph, at the stated price, and no cover of any size has a lower price.
-use Prim.Native.Nat.{ℕ, zero, suc, ◌+◌, ◌*◌, ◌≤◌}
-use native.Mathlib.Nat.{mul-suc, mul-le-mul_left}
-use native.Mathlib.Omega.{arith}
-use mathlib.Core.Path.{◌≡◌, sym, ◌∙◌}
-use mathlib.Core.List.{List, []}
-use lib.Dec.{T}
-use lib.ListN.{length}
-use lib.IntN.{pos}
+use Rattle.std.proofs.Common.{ℕ, zero, suc, ◌+◌, ◌*◌, ◌≤◌, mul-suc, mul-le-mul_left, arith, ◌≡◌, sym, ◌∙◌, List, [], T, length, pos}
 use Rattle.mathematics.specs.Price.{Prices, Ordered, whole}
 use Rattle.mathematics.specs.Lists.{All}
 use Rattle.mathematics.specs.Graph.{is_path}

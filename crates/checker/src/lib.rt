@@ -6,4 +6,4 @@ mod answers;
 pub mod check;
 pub mod reader;
 
-pub use forms::{Answer, Found, Graph, Header, Verdict};
+pub use forms::{Answer, Fault, Graph, Header, Refused, Verdict};

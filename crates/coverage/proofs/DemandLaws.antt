@@ -1,35 +1,17 @@
 -- Laws of the faults of an exon's counts and of the list of quotients: what the functions of `coverage` need. Assumes nothing.
-use Rattle.std.proofs.Common.{◌≡◌, ℕ, zero, suc, ◌+◌, ◌/◌, ◌<◌, ◌≤◌, Bool, true, false, cond, ◌&&◌, ◌||◌, eqb, ltb, leb, List, [], ◌∷◌, ◌++◌, length, get_or, take, set, sym, refl, ap, ◌∙◌, add-one, arith, take_all, take-suc, take-suc-set, ltb-false, le-ltb, lt-ltb, eq-eqb, ne_eqb, eqb-true, le-leb, leb-true}
+use Rattle.std.proofs.Common.{◌≡◌, ℕ, zero, suc, ◌+◌, ◌/◌, ◌<◌, ◌≤◌, Bool, true, false, cond, ◌&&◌, ◌||◌, eqb, ltb, leb, List, [], ◌∷◌, ◌++◌, length, get_or, take, set, sym, refl, ap, ◌∙◌, ◌⊎◌, inl, inr, Ok, Err, add-one, arith, take_all, take-suc, take-suc-set, ltb-false, le-ltb, lt-ltb, eq-eqb, ne_eqb, eqb-true, leb-true}
 use mathlib.Core.Bool.{false≢true}
-use borrow.Author.Tests.{lt-leb}
 use Rattle.forms.specs.declared.Verdict.{Verdict}
 use Rattle.forms.specs.Limits.{max_demand}
 use Rattle.forms.specs.GraphFaults.{refusal, nothing_refused, first_fault}
 use Rattle.forms.proofs.RightLaws.{each_right, all_right}
+use Rattle.forms.specs.declared.refusals.Refused.{Refused}
+use Rattle.forms.specs.Refusals.{number_of}
+use Rattle.forms.proofs.ThenLaws.{number_positive}
 use Rattle.coverage.specs.Limits.{min_length, max_length, min_exons, max_exons}
-use Rattle.coverage.specs.Demands.{one_length, exon_fault, fault_of, counts_verdict, quotients, demands_written, entries_written, DemandsPromise}
+use Rattle.coverage.specs.Demands.{one_length, exon_fault, fault_of, counts_verdict, quotients, demands_written, entries_written, filled_of, DemandsPromise}
 use Rattle.coverage.specs.declared.Coverage.{Coverage}
 use Rattle.coverage.specs.Depth.{coverage_of}
-
--- ---- the lengths of the three lists, test by test
-module _ (bases lengths demands : ℕ) where
-  pub lengths_differ : (lengths ≡ bases → ⊥) → false ≡ one_length bases lengths demands
-  unfolding one_length
-  lengths_differ h = simp (ne_eqb _ _ h)
-
-  module _ (same : lengths ≡ bases) where
-    pub demands_differ : (demands ≡ bases → ⊥) → false ≡ one_length bases lengths demands
-    unfolding one_length
-    demands_differ h = simp (eq-eqb _ _ same, ne_eqb _ _ h)
-
-    module _ (room : demands ≡ bases) where
-      pub no_exons : bases < min_exons → false ≡ one_length bases lengths demands
-      unfolding one_length
-      no_exons h = simp (eq-eqb _ _ same, eq-eqb _ _ room, lt-leb _ _ h)
-
-      pub some_exons : min_exons ≤ bases → leb bases max_exons ≡ one_length bases lengths demands
-      unfolding one_length
-      some_exons h = simp (eq-eqb _ _ same, eq-eqb _ _ room, le-leb _ _ h)
 
 -- ---- an exon's counts, test by test
 -- the demand of a record just made
@@ -38,15 +20,12 @@ unfolding coverage_of
 demand_counts c bases length n e d = d ∙ ap (λ (k : Coverage). k.bases / k.length) e
 
 module _ (bases length : ℕ) where
-  pub length_low : length < min_length → 32 ≡ exon_fault bases length
+  pub length_out : (length < min_length) ⊎ ((min_length ≤ length) × (max_length < length)) → 32 ≡ exon_fault bases length
   unfolding exon_fault
-  length_low h = simp (lt-ltb _ _ h)
+  length_out (inl h) = simp (lt-ltb _ _ h)
+  length_out (inr h) = simp (le-ltb _ _ h.0, lt-ltb _ _ h.1)
 
   module _ (some : min_length ≤ length) where
-    pub length_high : max_length < length → 32 ≡ exon_fault bases length
-    unfolding exon_fault
-    length_high h = simp (le-ltb _ _ some, lt-ltb _ _ h)
-
     module _ (short : length ≤ max_length) where
       pub quotient_high : max_demand < bases / length → 33 ≡ exon_fault bases length
       unfolding exon_fault
@@ -141,14 +120,14 @@ module _ (bases lengths before : List ℕ) where
   lists_right e = simp e
 
   -- a refusal keeps the list
-  pub refused : (v : Verdict) → v ≡ counts_verdict bases lengths before → (v.number ≡ 0 → ⊥) → DemandsPromise bases lengths before before (record { number = v.number; place = v.place; written = 0 })
+  pub refused : (e : Refused) → refusal (number_of e.fault) e.place ≡ counts_verdict bases lengths before → DemandsPromise bases lengths before before (filled_of (Err e))
   unfolding entries_written demands_written
-  refused v e wrong =
-      let number : ((counts_verdict bases lengths before).number ≡ 0 → ⊥) = λ z. wrong (ap (λ (w : Verdict). w.number) e ∙ z) in
-      record { verdict = e; entries = simp (ne_eqb _ _ number); demands = simp (ne_eqb _ _ number) }
+  refused e h =
+      let number : ((counts_verdict bases lengths before).number ≡ 0 → ⊥) = λ z. number_positive e.fault (ap (λ (w : Verdict). w.number) h ∙ z) in
+      record { verdict = h; entries = simp (ne_eqb _ _ number); demands = simp (ne_eqb _ _ number) }
 
   -- where nothing is refused the list holds the quotients
-  pub written : (after : List ℕ) → nothing_refused ≡ counts_verdict bases lengths before → after ≡ quotients bases lengths → DemandsPromise bases lengths before after (record { number = 0; place = 0; written = length bases })
+  pub written : (after : List ℕ) → nothing_refused ≡ counts_verdict bases lengths before → after ≡ quotients bases lengths → DemandsPromise bases lengths before after (filled_of (Ok (length bases)))
   unfolding entries_written demands_written
   written after e held =
       let number : (counts_verdict bases lengths before).number ≡ 0 = sym (ap (λ (w : Verdict). w.number) e) in

@@ -6,9 +6,8 @@ use Rattle.forms.specs.declared.Verdict.{Verdict}
 use Rattle.forms.specs.Limits.{max_demand}
 use Rattle.forms.specs.GraphFaults.{refusal, nothing_refused, first_fault}
 use Rattle.forms.proofs.RightLaws.{all_right}
-use Rattle.coverage.specs.declared.Filled.{Filled}
 use Rattle.coverage.specs.Limits.{min_length, max_length}
-use Rattle.coverage.specs.Demands.{one_length, exon_fault, fault_of, counts_verdict, quotients, demands_written, entries_written, DemandsPromise, CountsRight}
+use Rattle.coverage.specs.Demands.{one_length, exon_fault, fault_of, counts_verdict, quotients, demands_written, entries_written, Filled, DemandsPromise, CountsRight}
 use Rattle.coverage.proofs.DemandLaws.{counts_right, right_exon, quotients_length, quotients_at, same_lengths, exons_right, lists_refused, lists_right}
 
 module _ (bases lengths before : List ℕ) where

@@ -1,9 +1,10 @@
 -- Document 02, #110: the demands of exons from their base counts, and what is refused.
-use Rattle.std.specs.Prelude.{◌≡◌, ℕ, ◌/◌, ◌<◌, ◌≤◌, Bool, cond, ◌&&◌, ◌||◌, List, [], ◌∷◌, length, ◌==◌, nat_le, nat_lt, slice_index}
+use Rattle.std.specs.Prelude.{◌≡◌, ℕ, ◌/◌, ◌<◌, ◌≤◌, Bool, cond, ◌&&◌, ◌||◌, List, [], ◌∷◌, length, ◌==◌, nat_le, nat_lt, slice_index, Result}
 use Rattle.forms.specs.declared.Verdict.{Verdict}
+use Rattle.forms.specs.declared.refusals.Refused.{Refused}
 use Rattle.forms.specs.Limits.{max_demand}
 use Rattle.forms.specs.GraphFaults.{refusal, first_fault}
-use Rattle.coverage.specs.declared.Filled.{Filled}
+use Rattle.forms.specs.Refusals.{verdict_of, value_of}
 use Rattle.coverage.specs.Limits.{min_length, max_length, min_exons, max_exons}
 
 -- "the three lists .. of one length in 1..256"
@@ -37,6 +38,15 @@ demands_written bases lengths demands = cond ((counts_verdict bases lengths dema
 -- document 01: "It also returns how many bytes (of a list, how many entries) it wrote to each output, 0 on a refusal."
 unfoldable pub entries_written : List ℕ → List ℕ → List ℕ → ℕ
 entries_written bases lengths demands = cond ((counts_verdict bases lengths demands).number == 0) (length bases) 0
+
+-- What the call answers, in the numbers of document 01: number and place of what is refused, both 0 where nothing is, and how many demands it wrote.
+pub record Filled : Type 0 where
+  pub number : ℕ
+  pub place : ℕ
+  pub written : ℕ
+
+abbrev pub filled_of : Result ℕ Refused → Filled
+filled_of r = record { number = (verdict_of r).number; place = (verdict_of r).place; written = value_of r }
 
 -- What the call promises of its answer, for a lent list that held `before` and now holds `after`.
 pub record DemandsPromise (bases lengths before after : List ℕ) (r : Filled) : Type 0 where

@@ -3,14 +3,15 @@
 
 ghost use Rattle.std.specs.Prelude.{◌≡◌, ℕ, ◌/◌, ◌<◌, length};
 ghost use Rattle.forms.specs.GraphFaults.{first_fault};
+ghost use Rattle.forms.specs.Refusals.{verdict_of, fault_of};
 ghost use Rattle.coverage.specs.Limits.{max_bases, min_length, max_length, min_exons, max_exons};
 ghost use Rattle.coverage.specs.Depth.{coverage_of, Recorded};
-ghost use Rattle.coverage.specs.Demands.{one_length, exon_fault, fault_of, quotients, DemandsPromise};
+ghost use Rattle.coverage.specs.Demands.{one_length, exon_fault, fault_of as fault_at, quotients, filled_of, DemandsPromise};
 
-use forms::{Graph, Verdict};
+use forms::{Fault, Graph, Refused};
 
 // The average coverage of an exon, beside the two counts that it is made of.
-#[derive(Drop)]
+#[derive(Clone, Copy, Debug, PartialEq)]
 pub struct Coverage {
     pub depth: f64,
     pub bases: u32,
@@ -43,14 +44,6 @@ impl Coverage {
     }
 }
 
-// What the call answers: number and place of what is refused, both 0 where nothing is, and how many demands it wrote.
-#[derive(Drop)]
-pub struct Filled {
-    pub number: usize,
-    pub place: usize,
-    pub written: usize,
-}
-
 // The demand maker: the whole part of the coverage.
 fn demand_of(c: Coverage) -> u32
     requires { Recorded c }
@@ -59,90 +52,61 @@ fn demand_of(c: Coverage) -> u32
     std::num::truncating_f64_to_u64(c.depth) as u32
 }
 
-// What is wrong with the counts of an exon: 32, 33 or nothing.
-fn exon_fault(bases: u32, length: u32) -> usize
-    ensures { result ≡ exon_fault bases length }
+// What is wrong with the counts of an exon: its length, or else its demand.
+fn exon_fault(bases: u32, length: u32) -> Result<(), Fault>
+    ensures { fault_of result ≡ exon_fault bases length }
 {
-    if length < Coverage::MIN_LENGTH {
-        return 32;
-    }
-    if Coverage::MAX_LENGTH < length {
-        return 32;
+    if length < Coverage::MIN_LENGTH || Coverage::MAX_LENGTH < length {
+        return Err(Fault::ExonLength);
     }
     if Graph::MAX_DEMAND < demand_of(Coverage::new(bases, length)) as usize {
-        return 33;
+        return Err(Fault::ExonDemand);
     }
-    0
+    Ok(())
 }
 
 // The first faulty exon.
-fn exons_verdict(bases: &[u32], lengths: &[u32]) -> Verdict
+fn exons_verdict(bases: &[u32], lengths: &[u32]) -> Result<(), Refused>
     requires { length lengths.now ≡ length bases.now }
-    ensures { result ≡ first_fault (fault_of bases.now lengths.now) (λ exon. exon) (length bases.now) 0 }
+    ensures { verdict_of result ≡ first_fault (fault_at bases.now lengths.now) (λ exon. exon) (length bases.now) 0 }
 {
-    let mut exon = 0;
-    while exon < bases.len() {
-        let fault = exon_fault(bases[exon], lengths[exon]);
-        if fault != 0 {
-            return Verdict::new(fault, exon);
+    for exon in 0..bases.len() {
+        if let Err(fault) = exon_fault(bases[exon], lengths[exon]) {
+            return Err(Refused::new(fault, exon));
         }
-        exon += 1;
     }
-    Verdict::new(0, 0)
+    Ok(())
 }
 
+#[tactic(auto, unfolding(crate::specs::Demands::one_length))]
 fn one_length(bases: usize, lengths: usize, demands: usize) -> bool
     ensures { result ≡ one_length bases lengths demands }
 {
-    if lengths != bases {
-        return false;
-    }
-    if demands != bases {
-        return false;
-    }
-    if bases < Coverage::MIN_EXONS {
-        return false;
-    }
-    bases <= Coverage::MAX_EXONS
+    lengths == bases
+        && demands == bases
+        && Coverage::MIN_EXONS <= bases
+        && bases <= Coverage::MAX_EXONS
 }
 
 // Writes each exon's demand, once every exon is right.
 fn write_demands(bases: &[u32], lengths: &[u32], demands: &mut [u32])
-    requires { (length lengths.now ≡ length bases.now) × (length demands.old ≡ length bases.now) × ((exon : ℕ) → exon < length bases.now → fault_of bases.now lengths.now exon ≡ 0) }
+    requires { (length lengths.now ≡ length bases.now) × (length demands.old ≡ length bases.now) × ((exon : ℕ) → exon < length bases.now → fault_at bases.now lengths.now exon ≡ 0) }
     ensures { demands.new ≡ quotients bases.now lengths.now }
 {
-    let mut exon = 0;
-    while exon < bases.len() {
-        demands[exon] = demand_of(Coverage::new(bases[exon], lengths[exon]));
-        exon += 1;
+    for (exon, demand) in demands.iter_mut().enumerate() {
+        *demand = demand_of(Coverage::new(bases[exon], lengths[exon]));
     }
 }
 
-// Writes the demand of each exon, the whole part of its bases by its length, to the lent list: numbers 30, 32 and 33. All exons are
-// judged before the first demand is written, so that a refusal changes nothing.
-pub fn demands(bases: &[u32], lengths: &[u32], demands: &mut [u32]) -> Filled
-    ensures { DemandsPromise bases.now lengths.now demands.old demands.new result }
+// Writes the demand of each exon, the whole part of its bases by its length, to the lent list, and answers how many it wrote: numbers 30,
+// 32 and 33. All exons are judged before the first demand is written, so that a refusal changes nothing.
+pub fn demands(bases: &[u32], lengths: &[u32], demands: &mut [u32]) -> Result<usize, Refused>
+    ensures { DemandsPromise bases.now lengths.now demands.old demands.new (filled_of result) }
 {
     if !one_length(bases.len(), lengths.len(), demands.len()) {
-        return Filled {
-            number: 30,
-            place: 0,
-            written: 0,
-        };
+        return Err(Refused::new(Fault::ListLengths, 0));
     }
-    let verdict = exons_verdict(bases, lengths);
-    let is_refused = verdict.number != 0;
-    if is_refused {
-        return Filled {
-            number: verdict.number,
-            place: verdict.place,
-            written: 0,
-        };
-    }
+    exons_verdict(bases, lengths)?;
     write_demands(bases, lengths, demands);
-    Filled {
-        number: 0,
-        place: 0,
-        written: bases.len(),
-    }
+    Ok(bases.len())
 }

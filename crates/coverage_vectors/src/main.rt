@@ -5,87 +5,59 @@
 
 ghost use Rattle.io.specs.Counts.{IsPrefixLen};
 
-use records::Next;
-
 // No stored list is longer.
 const MANY: usize = 300;
-
-fn low_word(n: u64) -> u32 {
-    (n % 4294967296) as u32
-}
 
 // Reads `count` numbers to the front of the list, fewer where the input ends or the list is too short, and answers how many.
 fn read_numbers(list: &mut [u32], count: usize) -> usize
     ensures { IsPrefixLen result list.new }
 {
-    let mut i = 0;
-    while i < list.len() {
-        if count <= i {
-            return i;
-        }
-        let Next::Number(n) = records::read_four() else {
+    for (i, number) in list.iter_mut().take(count).enumerate() {
+        let Some(read) = records::read_four() else {
             return i;
         };
-        list[i] = low_word(n);
-        i += 1;
+        *number = read;
     }
-    i
-}
-
-fn print_number(number: u32) {
-    records::print_next(number as usize);
+    count.min(list.len())
 }
 
 fn print_list(list: &[u32]) {
-    let mut i = 0;
-    while i < list.len() {
-        print_number(list[i]);
-        i += 1;
+    for &number in list {
+        records::print_next(number as usize);
     }
 }
 
 fn run_counts(bases: &[u32], lengths: &[u32], lent: &mut [u32]) {
     let filled = coverage::demands(bases, lengths, lent);
-    records::print_first(filled.number);
-    records::print_next(filled.place);
-    records::print_next(filled.written);
+    let verdict = records::verdict(&filled);
+    records::print_first(verdict.number);
+    records::print_next(verdict.place);
+    records::print_next(filled.unwrap_or(0));
     print_list(lent);
     records::end_line();
 }
 
-// Runs the record that comes next, and answers whether it was there.
-fn run_record() -> bool {
-    let Next::Number(many_bases) = records::read_four() else {
-        return false;
-    };
-    let Next::Number(many_lengths) = records::read_four() else {
-        return false;
-    };
-    let Next::Number(room) = records::read_four() else {
-        return false;
-    };
-    let room = room as usize;
+// Runs the record that comes next, where there is one.
+fn run_record() -> Option<()> {
+    let many_bases = records::read_four()? as usize;
+    let many_lengths = records::read_four()? as usize;
+    let room = records::read_four()? as usize;
     if room > MANY {
-        return false;
+        return None;
     }
     let mut bases = [0u32; MANY];
     let mut lengths = [0u32; MANY];
     let mut lent = [77u32; MANY];
-    let held_bases = read_numbers(&mut bases, many_bases as usize);
-    let held_lengths = read_numbers(&mut lengths, many_lengths as usize);
+    let held_bases = read_numbers(&mut bases, many_bases);
+    let held_lengths = read_numbers(&mut lengths, many_lengths);
     run_counts(
         &bases[..held_bases],
         &lengths[..held_lengths],
         &mut lent[..room],
     );
-    true
+    Some(())
 }
 
-// A proved loop has to end, and nothing says that the input does. So the loop counts its turns down, from a number that no run
-// uses up.
 fn main() {
-    let mut turns = u64::MAX;
-    while turns > 0 && run_record() {
-        turns -= 1;
-    }
+    records::run_all(run_record);
 }

@@ -5,7 +5,7 @@
 ghost use Rattle.std.specs.Prelude.{◌<◌, ◌≤◌, length};
 ghost use Rattle.io.specs.Counts.{IsPrefixLen};
 
-use forms::bytes::be32;
+use forms::Refused;
 
 // Standard output, by the number of its file.
 const STDOUT_FILENO: i32 = 1;
@@ -15,55 +15,41 @@ const EXON: usize = 8;
 
 const EXONS: usize = 512;
 
-fn low_word(n: usize) -> u32 {
-    (n % 4294967296) as u32
-}
-
 // Fills the list from the numbers that stand in the table at `first` and every eight bytes on, and answers how many there are.
 fn column(table: &[u8], first: usize, list: &mut [u32]) -> usize
     requires { (first < 8) × (length list.old ≤ 512) }
     ensures { IsPrefixLen result list.new }
 {
-    let mut i = 0;
-    while i < list.len() {
+    for (i, number) in list.iter_mut().enumerate() {
         let at = i * EXON + first;
         if table.len() <= at + 3 {
             return i;
         }
-        list[i] = low_word(be32(table, at));
-        i += 1;
+        *number = u32::from_be_bytes([table[at], table[at + 1], table[at + 2], table[at + 3]]);
     }
-    i
-}
-
-fn print_demand(demand: u32) {
-    io::print_decimal(STDOUT_FILENO, demand as u64);
-    io::write_all(STDOUT_FILENO, b"\n");
+    list.len()
 }
 
 fn print_demands(demands: &[u32]) {
-    let mut i = 0;
-    while i < demands.len() {
-        print_demand(demands[i]);
-        i += 1;
+    for &demand in demands {
+        io::print_decimal(STDOUT_FILENO, u64::from(demand));
+        io::write_all(STDOUT_FILENO, b"\n");
     }
 }
 
-fn print_refusal(number: usize, place: usize) {
+fn print_refusal(refused: Refused) {
     io::write_all(STDOUT_FILENO, b"refused ");
-    io::print_decimal(STDOUT_FILENO, number as u64);
+    io::print_decimal(STDOUT_FILENO, refused.fault.number() as u64);
     io::write_all(STDOUT_FILENO, b" ");
-    io::print_decimal(STDOUT_FILENO, place as u64);
+    io::print_decimal(STDOUT_FILENO, refused.place as u64);
     io::write_all(STDOUT_FILENO, b"\n");
 }
 
 fn print_answer(bases: &[u32], lengths: &[u32], demands: &mut [u32]) {
-    let filled = coverage::demands(bases, lengths, demands);
-    if filled.number != 0 {
-        print_refusal(filled.number, filled.place);
-        return;
+    match coverage::demands(bases, lengths, demands) {
+        Ok(_) => print_demands(demands),
+        Err(refused) => print_refusal(refused),
     }
-    print_demands(demands);
 }
 
 // Prints the demands of a table. The lent list has an entry for each exon that begins in it, so that an exon that is cut short makes the

@@ -12,10 +12,9 @@ use mathlib.Core.Logic.{⊎_elim}
 use lib.Dec.{ltb}
 use lib.ListN.{length, get_or}
 use borrow.Author.Tests.{eq-eqb, ne_eqb, ltb-true, ltb-false}
+use Rattle.std.specs.Prelude.{Option, Some, None}
 use Rattle.mathematics.specs.Graph.{joins}
 use Rattle.mathematics.specs.Cover.{one_if}
-use Rattle.forms.specs.declared.Found.{Found}
-use Rattle.forms.specs.declared.Found.TheVariants.{At, Missing}
 use Rattle.forms.specs.Bytes.{tabulate}
 use Rattle.forms.specs.Limits.{room_vertices}
 use Rattle.forms.specs.GraphForm.{arc_count, arc_at, arc_tail, arc_head, arc_length}
@@ -105,7 +104,7 @@ module _ (s : List ℕ) (base count u a : ℕ) (c : ArcsFrom s base count) (pass
         elim (dec_le (tails_below (arcs_of s) u) a)
         [ yes y ↦ omega arith | no y ↦ absurd (omega (arith, its_tail, (whole_cut s c.right u).low a (omega arith) (omega arith))) ]
 
-  pub below_ends : count ≤ a → a ≡ tails_below (arcs_of s) u
+  pub below_ends : count ≤ a → count ≡ tails_below (arcs_of s) u
   below_ends h = omega (arith, (whole_cut s c.right u).most, c.arcs)
 
 -- a row of the table of first arcs is not above the next
@@ -127,14 +126,14 @@ tails_most s right u = (whole_cut s right u).most
 
 -- Finding the arc from u to v: what is found from arc a on.
 module _ (s : List ℕ) (u v : ℕ) where
-  unfoldable pub found_from : ℕ → Found
+  unfoldable pub found_from : ℕ → Option ℕ
   found_from a = number_from (tabulate (arc_of s) (arc_count s - a) a) u v a
 
   pub next : (k a : ℕ) → joins (arc_of s a) u v ≡ false → number_from (tabulate (arc_of s) (suc k) a) u v a ≡ number_from (tabulate (arc_of s) k (suc a)) u v (suc a)
   unfolding number_from
   next k a e = simp e
 
-  pub here : (k a : ℕ) → joins (arc_of s a) u v ≡ true → number_from (tabulate (arc_of s) (suc k) a) u v a ≡ At a
+  pub here : (k a : ℕ) → joins (arc_of s a) u v ≡ true → number_from (tabulate (arc_of s) (suc k) a) u v a ≡ Some a
   unfolding number_from
   here k a e = simp e
 
@@ -144,13 +143,13 @@ module _ (s : List ℕ) (u v : ℕ) where
       let split : arc_count s - a ≡ suc (arc_count s - (a + 1)) = omega arith in
       rw (split, next (arc_count s - (a + 1)) a e, add-one)
 
-  stop : (a : ℕ) → a < arc_count s → joins (arc_of s a) u v ≡ true → found_from a ≡ At a
+  stop : (a : ℕ) → a < arc_count s → joins (arc_of s a) u v ≡ true → found_from a ≡ Some a
   unfolding found_from
   stop a h e =
       let split : arc_count s - a ≡ suc (arc_count s - (a + 1)) = omega arith in
       rw (split, here (arc_count s - (a + 1)) a e)
 
-  none : (a : ℕ) → arc_count s ≤ a → found_from a ≡ Missing
+  none : (a : ℕ) → arc_count s ≤ a → found_from a ≡ None
   unfolding found_from number_from
   none a h =
       let empty : arc_count s - a ≡ 0 = omega arith in
@@ -204,10 +203,10 @@ module _ (s : List ℕ) (u v : ℕ) where
         skip a (within a h) (simp (eq-eqb _ _ (tail_is a l h), ne_eqb _ _ (λ e. other (its_head ∙ e)))),
       )
 
-      pub find_stops : head ≡ v → found_from a ≡ At a
+      pub find_stops : head ≡ v → found_from a ≡ Some a
       find_stops e = stop a (within a h) (simp (eq-eqb _ _ (tail_is a l h), eq-eqb _ _ (sym its_head ∙ e)))
 
-    pub find_ends : (a : ℕ) → a ≤ arc_count s → get_or first (u + 1) 0 ≤ a → found_from a ≡ Missing
+    pub find_ends : (a : ℕ) → a ≤ arc_count s → get_or first (u + 1) 0 ≤ a → found_from a ≡ None
     find_ends a few h =
         skip_many (arc_count s - a) a (omega arith)
         (λ k b c same. omega (arith, (whole_cut s t.arcs (u + 1)).high k (omega (arith, end_at)) (omega arith)))

@@ -17,12 +17,6 @@ regroup p n =
     let a : 2 * (4 * p) ≡ 4 * (2 * p) = omega arith in
     ap (λ x. x * n) a ∙ mul_assoc 4 (2 * p) n
 
--- two parts at most, and a count of two bytes
-pub marks_few : (p n : ℕ) → p ≤ 2 → n < 65536 → 2 * p * n < 262144
-marks_few p n a b =
-    let four : 2 * p ≤ 4 = omega arith in
-    omega (arith, mul-le-mul_right n four)
-
 module _ (s : List ℕ) where
   -- a form too short to have a version counts as one of version 0
   pub no_version : length s ≤ version_at → 0 ≡ version s

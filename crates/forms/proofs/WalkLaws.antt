@@ -10,24 +10,23 @@ use lib.IntN.{ℤ}
 use lib.ListN.{length, drop}
 use lib.Seq.{drop-cons}
 use borrow.Author.Tests.{lt-ltb, le-ltb, ltb-true}
+use Rattle.std.specs.Prelude.{Option, Some, None}
 use Rattle.mathematics.specs.Graph.{Arc, joins, has_arc, linked}
-use Rattle.forms.specs.declared.Found.{Found}
-use Rattle.forms.specs.declared.Found.TheVariants.{At, Missing}
 use Rattle.forms.specs.Bytes.{byte, part}
 use Rattle.forms.specs.GraphFaults.{all_below, walks}
 use Rattle.forms.specs.ArcTable.{number_from, arc_number, goes_on}
 
 -- found exactly where there is an arc
-abbrev pub is_at : Found → Bool
-is_at (At k) = true
-is_at Missing = false
+abbrev pub is_at : Option ℕ → Bool
+is_at (Some k) = true
+is_at None = false
 
 pub found_is : (arcs : List (Arc ℤ)) (u v k : ℕ) → is_at (number_from arcs u v k) ≡ has_arc arcs u v
 unfolding number_from
 found_is [] u v k = refl
 found_is (a ∷ arcs) u v k = either (joins a u v) _ (found_is arcs u v (suc k))
   where
-    either : (b : Bool) (rest : Found) {more : Bool} → is_at rest ≡ more → is_at (cond b (At k) rest) ≡ (b || more)
+    either : (b : Bool) (rest : Option ℕ) {more : Bool} → is_at rest ≡ more → is_at (cond b (Some k) rest) ≡ (b || more)
     either true rest e = refl
     either false rest e = e
 
@@ -36,11 +35,7 @@ module _ (n : ℕ) (arcs : List (Arc ℤ)) (u v : ℕ) where
   unfolding goes_on
   goes_outside h = simp (le-ltb _ _ h)
 
-  pub goes_arc : (k : ℕ) → v < n → At k ≡ arc_number arcs u v → true ≡ goes_on n arcs u v
-  unfolding goes_on
-  goes_arc k h e = simp (lt-ltb _ _ h) (ap is_at e ∙ found_is arcs u v 0)
-
-  pub goes_nowhere : v < n → Missing ≡ arc_number arcs u v → false ≡ goes_on n arcs u v
+  pub goes_nowhere : v < n → None ≡ arc_number arcs u v → false ≡ goes_on n arcs u v
   unfolding goes_on
   goes_nowhere h e = simp (lt-ltb _ _ h) (ap is_at e ∙ found_is arcs u v 0)
 

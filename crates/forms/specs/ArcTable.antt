@@ -1,24 +1,22 @@
 -- Which arc goes from one vertex to another: its number in the form, and the table by which the code finds it without a look at all arcs.
-use Rattle.std.specs.Prelude.{ℕ, suc, ◌+◌, ◌<◌, ◌≤◌, ◌≡◌, List, [], ◌∷◌, Bool, cond, ◌&&◌, ltb, ℤ, get_or}
+use Rattle.std.specs.Prelude.{ℕ, suc, ◌+◌, ◌<◌, ◌≤◌, ◌≡◌, List, [], ◌∷◌, Bool, cond, ◌&&◌, ltb, ℤ, get_or, Option, Some, None}
 use Rattle.mathematics.specs.Graph.{Arc, joins, has_arc}
 use Rattle.mathematics.specs.Cover.{one_if}
-use Rattle.forms.specs.declared.Found.{Found}
-use Rattle.forms.specs.declared.Found.TheVariants.{At, Missing}
 use Rattle.forms.specs.Limits.{room_vertices}
 use Rattle.forms.specs.GraphForm.{first_arc_at, arc_count, arc_at, arc_tail, arc_head}
 use Rattle.forms.specs.GraphOf.{arcs_of}
 use Rattle.forms.specs.GraphReads.{ArcsRight}
 
 -- the number of the first arc of the list that goes from u to v, where the list's own first arc has number k
-unfoldable pub number_from : List (Arc ℤ) → ℕ → ℕ → ℕ → Found
-number_from [] u v k = Missing
-number_from (a ∷ arcs) u v k = cond (joins a u v) (At k) (number_from arcs u v (suc k))
+unfoldable pub number_from : List (Arc ℤ) → ℕ → ℕ → ℕ → Option ℕ
+number_from [] u v k = None
+number_from (a ∷ arcs) u v k = cond (joins a u v) (Some k) (number_from arcs u v (suc k))
 
 -- the number of the arc from u to v
-abbrev pub arc_number : List (Arc ℤ) → ℕ → ℕ → Found
+abbrev pub arc_number : List (Arc ℤ) → ℕ → ℕ → Option ℕ
 arc_number arcs u v = number_from arcs u v 0
 
--- arc k of the form goes from u to v: what a lookup that gives `At k` says; `Missing` says that no arc does
+-- arc k of the form goes from u to v: what a lookup that gives `Some k` says; `None` says that no arc does
 abbrev pub Goes : List ℕ → ℕ → ℕ → ℕ → Type 0
 Goes s u v k = (k < arc_count s) × (arc_tail s (arc_at s k) ≡ u) × (arc_head s (arc_at s k) ≡ v)
 

@@ -3,6 +3,7 @@ pub mod Limits
 pub mod Layout
 pub mod GraphForm
 pub mod GraphFaults
+pub mod Refusals
 pub mod GraphOf
 pub mod AnswerForm
 pub mod AnswerFaults

@@ -5,29 +5,20 @@ ghost use Rattle.forms.specs.GraphReads.{ArcsRight};
 ghost use Rattle.forms.specs.ArcTable.{ArcsFrom, ArcTable, tails_below, arc_number};
 ghost use Rattle.forms.specs.Limits.{room_vertices};
 
+use crate::Graph;
 use crate::fields::{arc_count, arc_head, arc_tail, first_arc_at};
-use crate::{Found, Graph};
-
-// An entry of the table of first arcs as a number to reckon with.
-fn wide16(b: u16) -> usize
-    ensures { (result ≡ b) × (result < 65536) }
-{
-    b as usize
-}
 
 // How many arcs have a tail below u, counted on from an arc before which all have one: arcs ascend by tail, so the first that has none ends the count.
 fn arcs_below(s: &[u8], base: usize, count: usize, u: usize, from: usize) -> usize
     requires { ArcsFrom s.now base count × (from ≤ tails_below (arcs_of s.now) u) }
     ensures { result ≡ tails_below (arcs_of s.now) u }
 {
-    let mut a = from;
-    while a < count {
+    for a in from..count {
         if u <= arc_tail(s, base, a) {
             return a;
         }
-        a += 1;
     }
-    a
+    count
 }
 
 // The table of first arcs: at u the number of arcs whose tail is below u. Arcs are passed once, since they ascend by tail.
@@ -39,28 +30,28 @@ pub fn first_arcs(s: &[u8]) -> [u16; Graph::ROOM_VERTICES + 1]
     let count = arc_count(s);
     let mut first = [0u16; Graph::ROOM_VERTICES + 1];
     let mut below = 0;
-    let mut u = 0;
-    while u <= Graph::ROOM_VERTICES {
+    for (u, entry) in first.iter_mut().enumerate() {
         below = arcs_below(s, base, count, u, below);
-        first[u] = below as u16;
-        u += 1;
+        *entry = below as u16;
     }
     first
 }
 
-// The number of the arc from u to v: a look at the arcs of tail u alone.
-pub fn find_arc(s: &[u8], first: &[u16; Graph::ROOM_VERTICES + 1], u: usize, v: usize) -> Found
+// The number of the arc from u to v, where there is one: a look at the arcs of tail u alone.
+pub fn find_arc(
+    s: &[u8],
+    first: &[u16; Graph::ROOM_VERTICES + 1],
+    u: usize,
+    v: usize,
+) -> Option<usize>
     requires { ArcTable s.now first.now × (u < room_vertices) }
     ensures { result ≡ arc_number (arcs_of s.now) u v }
 {
     let base = first_arc_at(s);
-    let end = wide16(first[u + 1]);
-    let mut a = wide16(first[u]);
-    while a < end {
+    for a in usize::from(first[u])..usize::from(first[u + 1]) {
         if arc_head(s, base, a) == v {
-            return Found::At(a);
+            return Some(a);
         }
-        a += 1;
     }
-    Found::Missing
+    None
 }

@@ -5,7 +5,7 @@ ghost use Rattle.forms.specs.Layout.{count_bytes, vertex_length};
 ghost use Rattle.forms.specs.GraphForm.{header_length, length_word, vertex_count, arc_count_at, arc_count, read_count_at, read_count, opening_price_at, opening_price, vertex_at, flags, vertex_demand, first_arc_at, arc_length, arc_at, arc_tail, arc_head, arc_cost, arc_demand, first_read_at, read_length, read_vertices_at, read_end};
 ghost use Rattle.forms.specs.AnswerForm.{answer_length_word, answer_version, path_count, price_at, answer_header_length, stated_price, mark_part_length, mark_length, in_mark_at, out_mark_at, mark_parts, first_path_at, path_header_length, path_weight, path_length, path_vertices_at, path_end};
 
-use crate::bytes::{be16, be32, wide};
+use crate::bytes::{be16, be32, be64};
 use crate::layout::{count_at, count_bytes, price_parts, vertex_length};
 use crate::{Answer, Graph};
 
@@ -74,7 +74,7 @@ pub fn read_count(s: &[u8]) -> usize
     ensures value { result ≡ read_count s.now }
     ensures small { result < 256 }
 {
-    wide(s[read_count_at(s)])
+    usize::from(s[read_count_at(s)])
 }
 
 // The price of opening one more path.
@@ -108,7 +108,7 @@ pub fn vertex_flags(s: &[u8], v: usize) -> usize
     ensures value { result ≡ flags s.now v }
     ensures small { result < 256 }
 {
-    wide(s[vertex_at(s, v)])
+    usize::from(s[vertex_at(s, v)])
 }
 
 // The demand of vertex v.
@@ -143,7 +143,7 @@ pub fn arc_tail(s: &[u8], base: usize, a: usize) -> usize
     ensures value { result ≡ arc_tail s.now (arc_at s.now a) }
     ensures small { result < 256 }
 {
-    wide(s[arc_at(s, base, a)])
+    usize::from(s[arc_at(s, base, a)])
 }
 
 // The head of arc a.
@@ -152,7 +152,7 @@ pub fn arc_head(s: &[u8], base: usize, a: usize) -> usize
     ensures value { result ≡ arc_head s.now (arc_at s.now a) }
     ensures small { result < 256 }
 {
-    wide(s[arc_at(s, base, a) + 1])
+    usize::from(s[arc_at(s, base, a) + 1])
 }
 
 // Tail and head of arc a as one number, by which arcs are ordered.
@@ -230,7 +230,7 @@ pub fn answer_version(t: &[u8]) -> usize
     ensures value { result ≡ answer_version t.now }
     ensures small { result < 256 }
 {
-    wide(t[Answer::AT_VERSION])
+    usize::from(t[Answer::AT_VERSION])
 }
 
 // How many paths an answer has.
@@ -247,7 +247,7 @@ pub fn stated_price(s: &[u8], t: &[u8]) -> usize
     requires { answer_header_length s.now ≤ length t.now }
     ensures { result ≡ stated_price s.now t.now }
 {
-    be32(t, Answer::AT_PRICE) * 4_294_967_296 + be32(t, Answer::AT_PRICE + 4)
+    be64(t, Answer::AT_PRICE)
 }
 
 // How long a mark is.

@@ -4,7 +4,6 @@ ghost use Rattle.std.specs.Prelude.{◌≡◌, ◌+◌, ◌<◌, ◌≤◌, leng
 ghost use Rattle.forms.specs.Limits.{room_vertices, room_arcs, room_reads, room_read_length, room_paths};
 ghost use Rattle.forms.specs.Layout.{version as version_of, max_vertices, max_arcs, max_reads, max_read_length, max_paths, max_weight, count_bytes, count_at, max_flag, vertex_length, answer_version_of, price_parts, max_path_length, longest_answer};
 
-use crate::bytes::wide;
 use crate::{Answer, Graph};
 
 // A graph form's version; 0 where the form is too short to have one.
@@ -15,7 +14,7 @@ pub fn version(s: &[u8]) -> usize
     if s.len() <= Graph::AT_VERSION {
         return 0;
     }
-    wide(s[Graph::AT_VERSION])
+    usize::from(s[Graph::AT_VERSION])
 }
 
 // How many vertices a graph may have.
@@ -80,7 +79,7 @@ pub fn count_at(s: &[u8], t: &[u8], at: usize) -> usize
     ensures value { result ≡ count_at s.now t.now at }
     ensures small { result < 65536 }
 {
-    wide(t[at])
+    usize::from(t[at])
 }
 
 // The greatest flag byte.

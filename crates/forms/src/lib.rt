@@ -7,6 +7,7 @@ pub mod bytes;
 pub mod fields;
 pub mod layout;
 pub mod marks;
+pub mod refusals;
 pub mod roles;
 
 ghost use Rattle.std.specs.Prelude.{◌≡◌, List, ℕ, ◌≤◌, length};
@@ -20,9 +21,10 @@ ghost use Rattle.forms.specs.Values.{empty_header, header_of, empty_graph, Graph
 
 use crate::arcs::first_arcs;
 use crate::fields::{arc_count, opening_price, path_count, read_count, stated_price, vertex_count};
+pub use crate::refusals::{Fault, Refused};
 
-// What a call answers where an input may be turned down: the refusal's number and its place; both are 0 where nothing is refused.
-#[derive(Drop)]
+// Number and place, as the definitions give them and the programs over stored vectors print them; both are 0 where nothing is refused.
+#[derive(Clone, Copy, Debug, PartialEq, Eq)]
 pub struct Verdict {
     pub number: usize,
     pub place: usize,
@@ -36,15 +38,8 @@ impl Verdict {
     }
 }
 
-// The number of the arc from one vertex to another, where there is one.
-#[derive(Drop)]
-pub enum Found {
-    At(usize),
-    Missing,
-}
-
 // The values of a graph form's header, once they are in range.
-#[derive(Drop)]
+#[derive(Clone, Copy, Debug, PartialEq, Eq)]
 pub struct Header {
     pub vertices: usize,
     pub arcs: usize,
@@ -70,17 +65,17 @@ impl Header {
         requires { header_length s.now ≤ length s.now }
         ensures { result ≡ header_of s.now }
     {
-        let mut header = Header::empty();
-        header.vertices = vertex_count(s);
-        header.arcs = arc_count(s);
-        header.reads = read_count(s);
-        header.opening = opening_price(s);
-        header
+        Header {
+            vertices: vertex_count(s),
+            arcs: arc_count(s),
+            reads: read_count(s),
+            opening: opening_price(s),
+        }
     }
 }
 
 // A graph form that reads: its header, and for each vertex the number of its first arc.
-#[derive(Drop)]
+#[derive(Clone, Copy, Debug, PartialEq, Eq)]
 pub struct Graph {
     pub header: Header,
     pub first: [u16; Graph::ROOM_VERTICES + 1],
@@ -128,9 +123,10 @@ impl Graph {
         ensures places { (Graph.AT_VERSION ≡ version_at) × (Graph.AT_VERTICES ≡ vertex_count_at) × (Graph.ARC ≡ arc_length) × (Graph.NEWEST ≡ newest) }
         ensures longest { (s : List ℕ) → Graph.LONGEST ≡ longest_graph s }
     {
-        let header = Header::empty();
-        let first = [0; Graph::ROOM_VERTICES + 1];
-        Graph { header, first }
+        Graph {
+            header: Header::empty(),
+            first: [0; Graph::ROOM_VERTICES + 1],
+        }
     }
 
     // The header and the table of first arcs of a graph form.
@@ -138,17 +134,15 @@ impl Graph {
         requires { ArcsRight s.now }
         ensures { GraphIs s.now result }
     {
-        let mut graph = Graph::empty();
-        let header = Header::of(s);
-        let first = first_arcs(s);
-        graph.header = header;
-        graph.first = first;
-        graph
+        Graph {
+            header: Header::of(s),
+            first: first_arcs(s),
+        }
     }
 }
 
 // The values of an answer form's header.
-#[derive(Drop)]
+#[derive(Clone, Copy, Debug, PartialEq, Eq)]
 pub struct Answer {
     pub paths: usize,
     pub price: usize,
@@ -190,9 +184,9 @@ impl Answer {
         requires { answer_header_length s.now ≤ length t.now }
         ensures { result ≡ answer_of s.now t.now }
     {
-        let mut answer = Answer::empty();
-        answer.paths = path_count(t);
-        answer.price = stated_price(s, t);
-        answer
+        Answer {
+            paths: path_count(t),
+            price: stated_price(s, t),
+        }
     }
 }

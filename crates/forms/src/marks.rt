@@ -21,6 +21,7 @@ fn mark_plus(t: &[u8], at: usize) -> usize
 }
 
 // The in-mark of vertex v with the limit added.
+// Kept: the new form is no plainer: eight calls would say `mark_plus(t, in_mark_at(s, v))` for `in_mark_plus(s, t, v)`, and each would prove again where the mark lies.
 pub fn in_mark_plus(s: &[u8], t: &[u8], v: usize) -> usize
     requires { (in_mark_at s.now v + mark_part_length ≤ length t.now) × (mark_fault t.now (in_mark_at s.now v) ≡ 0) }
     ensures { (signed32 t.now (in_mark_at s.now v) ≡ sub_ℕ result mark_limit) × (result ≤ 4000000000) }

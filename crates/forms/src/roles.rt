@@ -4,50 +4,54 @@ ghost use Rattle.mathematics.specs.Graph.{is_start, is_end};
 ghost use Rattle.forms.specs.Limits.{room_vertices};
 ghost use Rattle.forms.specs.GraphOf.{graph_of};
 ghost use Rattle.forms.specs.GraphReads.{Reads};
-ghost use Rattle.forms.specs.Roles.{role as role_of, Roles};
+ghost use Rattle.forms.specs.Roles.{Roles};
 
 use crate::Graph;
 use crate::fields::{vertex_count, vertex_flags};
 
-// A role as a number: 1 for a start, 2 for an end, both added up.
-fn role(start: bool, end: bool) -> u8
-    ensures { result ≡ role_of start end }
-{
-    if start {
-        if end { 3 } else { 1 }
-    } else {
-        if end { 2 } else { 0 }
-    }
+// What a vertex is in the graph: a start, an end, both or neither.
+#[derive(Clone, Copy, Debug, PartialEq, Eq)]
+pub struct Role {
+    pub start: bool,
+    pub end: bool,
+}
+
+impl Role {
+    // What a vertex is that carries no flag, and what stands behind the last vertex.
+    pub const NEITHER: Role = Role {
+        start: false,
+        end: false,
+    };
 }
 
 // The role of each vertex of a form that reads.
-pub fn roles(s: &[u8]) -> [u8; Graph::ROOM_VERTICES]
+pub fn roles(s: &[u8]) -> [Role; Graph::ROOM_VERTICES]
     requires { Reads s.now }
     ensures { Roles s.now result }
 {
-    let n = vertex_count(s);
-    let mut table = [0u8; Graph::ROOM_VERTICES];
-    let mut v = 0;
-    while v < n {
+    let mut table = [Role::NEITHER; Graph::ROOM_VERTICES];
+    for v in 0..vertex_count(s) {
         let flag = vertex_flags(s, v);
-        table[v] = role(flag % 2 == 1, flag / 2 == 1);
-        v += 1;
+        table[v] = Role {
+            start: flag % 2 == 1,
+            end: flag / 2 == 1,
+        };
     }
     table
 }
 
 // Whether vertex v is a start.
-pub fn is_start(s: &[u8], roles: &[u8; Graph::ROOM_VERTICES], v: usize) -> bool
+pub fn is_start(s: &[u8], roles: &[Role; Graph::ROOM_VERTICES], v: usize) -> bool
     requires { Roles s.now roles.now × (v < room_vertices) }
     ensures { result ≡ is_start (graph_of s.now) v }
 {
-    roles[v] % 2 == 1
+    roles[v].start
 }
 
 // Whether vertex v is an end.
-pub fn is_end(s: &[u8], roles: &[u8; Graph::ROOM_VERTICES], v: usize) -> bool
+pub fn is_end(s: &[u8], roles: &[Role; Graph::ROOM_VERTICES], v: usize) -> bool
     requires { Roles s.now roles.now × (v < room_vertices) }
     ensures { result ≡ is_end (graph_of s.now) v }
 {
-    roles[v] / 2 == 1
+    roles[v].end
 }

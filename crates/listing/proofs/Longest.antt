@@ -11,9 +11,8 @@ use Rattle.forms.specs.GraphFaults.{graph_verdict}
 use Rattle.checker.specs.Check.{check_verdict}
 use Rattle.text.specs.Text.{Writes}
 use Rattle.text.proofs.Digits.{chosen}
-use Rattle.listing.specs.declared.Listed.{Listed}
 use Rattle.listing.specs.Lines.{refused_word, refused_line}
-use Rattle.listing.specs.Listing.{cover_listing, listing_of, longest_input, inputs_listing, longest_listing, Lists}
+use Rattle.listing.specs.Listing.{cover_listing, listing_of, longest_input, inputs_listing, longest_listing, Listed, Lists}
 use Rattle.listing.proofs.Lengths.{pair_line_few}
 use Rattle.listing.proofs.Accepted.{cover_listing_few}
 use Rattle.listing.proofs.Writing.{listed_whole}

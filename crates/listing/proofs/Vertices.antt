@@ -1,11 +1,6 @@
 -- The vertices of a path, one by one: what the loops that store and that measure their texts keep from turn to turn.
-use Prim.Native.Nat.{ℕ, ◌+◌, ◌≤◌, ◌<◌}
-use native.Mathlib.Numerals.{add-one}
-use native.Mathlib.Omega.{arith}
-use mathlib.Core.Path.{◌≡◌}
-use mathlib.Core.List.{List, ◌++◌}
-use lib.ListN.{length, get_or, drop, length-append, drop_of_length-le}
-use lib.Seq.{drop-cons}
+use Rattle.std.proofs.Common.{ℕ, ◌+◌, ◌≤◌, ◌<◌, ◌≡◌, refl, sym, List, ◌++◌, length, get_or, drop, sum_by, length-append, drop_of_length-le, drop-cons, add-one, arith}
+use Rattle.std.proofs.lemmas.List.Recursion.{is_sum_by}
 use Rattle.text.specs.Text.{Puts, decimal, space}
 use Rattle.text.proofs.Storing.{Still, still_none}
 use Rattle.listing.specs.Lines.{vertex_texts}
@@ -25,11 +20,7 @@ pub vertices_end : {before : List ℕ} {start : ℕ} {text out : List ℕ} {at :
     Still before start text out at (vertex_texts (drop i vertices)) → Puts before start text out at
 vertices_end vertices i l h = still_none (rw (drop_of_length-le vertices l) at h)
 
--- and counts next
-pub vertex_counted : (vertices : List ℕ) (i v : ℕ) → i < length vertices → v ≡ get_or vertices i 0 →
-    length (vertex_texts (drop i vertices)) ≡ 1 + length (decimal v) + length (vertex_texts (drop (i + 1) vertices))
-vertex_counted vertices i v l e =
-    rw (texts_next vertices i v l e) (simp length-append (omega arith))
-
-pub vertices_counted : (vertices : List ℕ) (i : ℕ) → length vertices ≤ i → length (vertex_texts (drop i vertices)) ≡ 0
-vertices_counted vertices i l = rw (drop_of_length-le vertices l)
+-- a space and its digits for each
+pub vertices_counted : (vertices : List ℕ) → sum_by (λ v. 1 + length (decimal v)) vertices ≡ length (vertex_texts vertices)
+vertices_counted vertices =
+    sym (is_sum_by (λ l. length (vertex_texts l)) (λ v. 1 + length (decimal v)) refl (λ v more. simp length-append (omega arith)) vertices)

@@ -1,6 +1,6 @@
 -- Document 01, "The two programs": the listing of an answer form t for a graph form s. "First line: number of paths, price. Then per path its
 -- weight and vertices. Last line: the bound. A refusal prints one line, `refused`, number, place."
-use Rattle.std.specs.Prelude.{ℕ, zero, suc, ◌+◌, ◌*◌, ◌≡◌, List, [], ◌∷◌, ◌++◌, cond, ltb, leb, eqb, length, nat_abs}
+use Rattle.std.specs.Prelude.{ℕ, zero, suc, ◌+◌, ◌*◌, ◌≡◌, List, [], ◌∷◌, ◌++◌, cond, ltb, leb, eqb, length, nat_abs, Result, Ok, Err}
 use Rattle.mathematics.specs.Price.{whole}
 use Rattle.mathematics.specs.Cover.{Weighted, price}
 use Rattle.mathematics.specs.Bound.{bound}
@@ -9,10 +9,11 @@ use Rattle.forms.specs.AnswerForm.{path_count, answer_marks, first_path_at, path
 use Rattle.forms.specs.BuildFaults.{build_verdict}
 use Rattle.forms.specs.GraphFaults.{refusal, nothing_refused, graph_verdict}
 use Rattle.forms.specs.GraphOf.{graph_of}
+use Rattle.forms.specs.declared.refusals.Refused.{Refused}
+use Rattle.forms.specs.Refusals.{number_of}
 use Rattle.forms.specs.Limits.{room_vertices, room_paths}
 use Rattle.checker.specs.Check.{check_verdict, path_at, handed_out}
 use Rattle.text.specs.Text.{Writes}
-use Rattle.listing.specs.declared.Listed.{Listed}
 use Rattle.listing.specs.Lines.{cover_line, path_line, bound_line, refused_line}
 
 -- the weight of path k
@@ -74,6 +75,17 @@ listed_verdict out text = cond (ltb (length out) (length text)) (refusal 29 0) n
 -- what such a call writes to a lent output: the text; where the output is shorter, nothing
 unfoldable pub fitted : List ℕ → List ℕ → List ℕ
 fitted out text = cond (ltb (length out) (length text)) [] text
+
+-- "Each answer holds number and place; both are 0 where nothing is refused": number, place and how many bytes were written
+pub record Listed : Type 0 where
+  pub number : ℕ
+  pub place : ℕ
+  pub written : ℕ
+
+-- what a call that lists says by its answer
+abbrev pub listed_of : Result ℕ Refused → Listed
+listed_of (Ok n) = record { number = 0; place = 0; written = n }
+listed_of (Err e) = record { number = number_of e.fault; place = e.place; written = 0 }
 
 -- What a call that lists a text promises of the output that held `before` and now holds `after`: number and place, every byte, and how many were written.
 pub record Lists (before text after : List ℕ) (r : Listed) : Type 0 where

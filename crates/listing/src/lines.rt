@@ -3,7 +3,6 @@ ghost use Rattle.std.specs.Prelude.{◌≡◌, ◌≤◌, length};
 ghost use Rattle.text.specs.Text.{TextFits, Puts};
 ghost use Rattle.listing.specs.Lines.{pair_line, vertex_texts, path_line, bound_line};
 
-use forms::bytes::wide;
 use text::{number_length, put_number, put_text};
 
 pub fn put_pair_line(out: &mut [u8], at: usize, word: &[u8], a: usize, b: usize) -> usize
@@ -33,11 +32,9 @@ fn put_vertices(out: &mut [u8], at: usize, vertices: &[u8]) -> usize
     ensures { Puts out.old at (vertex_texts vertices.now) out.new result }
 {
     let mut end = at;
-    let mut i = 0;
-    while i < vertices.len() {
+    for &v in vertices {
         out[end] = b' ';
-        end = put_number(out, end + 1, wide(vertices[i]));
-        i += 1;
+        end = put_number(out, end + 1, usize::from(v));
     }
     end
 }
@@ -48,13 +45,10 @@ fn vertices_length(vertices: &[u8]) -> usize
     ensures value { result ≡ length (vertex_texts vertices.now) }
     ensures small { result ≤ 1_376_235 }
 {
-    let mut bytes = 0;
-    let mut i = 0;
-    while i < vertices.len() {
-        bytes += 1 + number_length(wide(vertices[i]));
-        i += 1;
-    }
-    bytes
+    vertices
+        .iter()
+        .map(|&v| 1 + number_length(usize::from(v)))
+        .sum()
 }
 
 pub fn put_path_line(out: &mut [u8], at: usize, weight: usize, vertices: &[u8]) -> usize

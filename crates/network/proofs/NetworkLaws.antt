@@ -1,19 +1,7 @@
 -- Laws of the working network over plain lists: what stands at a place after a store, sums after a store, and the chains of edges.
-use Prim.Native.Nat.{ℕ, zero, suc, ◌+◌, ◌*◌, ◌≤◌, ◌<◌}
-use native.Mathlib.Omega.{arith}
-use native.Mathlib.Numerals.{add-one}
-use native.Mathlib.Nat.{suc-mul, add-le-add}
+use Rattle.std.proofs.Common.{ℕ, zero, suc, ◌+◌, ◌*◌, ◌≤◌, ◌<◌, arith, add-one, suc-mul, add-le-add, ◌≡◌, refl, sym, ap, ap₂, ◌∙◌, List, ◌⊎◌, inl, inr, ⊎_elim, ◌≢◌, cond, eq-eqb, ne_eqb, length, set, get_or-set_same, get_or-set_other}
 use native.Mathlib.Decide.{ℕ_discrete, dec_lt}
-use mathlib.Core.Path.{◌≡◌, refl, sym, ap, ap₂, ◌∙◌}
-use mathlib.Core.List.{List}
-use mathlib.Core.Logic.{◌⊎◌, inl, inr, ⊎_elim, ◌≢◌}
-use mathlib.Core.Bool.{cond}
-use mir.Syntax.{w64}
-use mir.Val.{Fits}
-use borrow.Author.Tests.{eq-eqb, ne_eqb}
-use lib.ListN.{length, set, length-set}
-use lib.Seq.{get_or-set_same, get_or-set_other}
-use Rattle.network.specs.Network.{nth, sum_to, share, Chained, Cleared, most_nodes}
+use Rattle.network.specs.Network.{nth, sum_to, share, Chained}
 
 -- two numbers are the same, or they differ
 pub same_or_not : (a b : ℕ) → (a ≡ b) ⊎ (a ≢ b)
@@ -35,10 +23,6 @@ positive n ne = ⊎_elim (λ l. omega arith) (λ g. g) (below_or_not n 1)
 
 pub none_left : (n : ℕ) → n ≤ 0 → n ≡ 0
 none_left n l = omega arith
-
--- where an element of eight bytes stands
-pub offset_fits : (i : ℕ) → i < most_nodes → Fits w64 (i * 8)
-offset_fits i l = omega arith
 
 -- what stands at j after a store at i
 pub nth_set : (xs : List ℕ) (i a j : ℕ) → i < length xs → ((j ≡ i) × (nth (set xs i a) j ≡ a)) ⊎ ((j ≢ i) × (nth (set xs i a) j ≡ nth xs j))
@@ -115,12 +99,6 @@ pub share_most : (u v k : ℕ) → share u v k ≤ k
 share_most u v k = ⊎_elim (λ e. omega (arith, share_same u v k e)) (λ n. omega (arith, share_other u v k n)) (same_or_not u v)
 
 -- ---- chains of edges
-pub cleared_more : (u : ℕ) (head : List ℕ) → Cleared u head → u < most_nodes → Cleared (u + 1) (set head u 0)
-cleared_more u head C h = record {
-  long = length-set head u 0 ∙ C.long;
-  nothing = λ v p. ⊎_elim (λ s. s.1) (λ o. o.1 ∙ C.nothing v (omega arith)) (nth_set head u 0 v (omega (arith, C.long)));
-}
-
 -- no edge is in a chain of no edges
 pub chain_none : (N : ℕ) (key head next : List ℕ) → ((u : ℕ) → u < N → nth head u ≡ 0) → Chained N 0 key head next
 chain_none N key head next z = record {

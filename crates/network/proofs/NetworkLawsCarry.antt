@@ -1,15 +1,8 @@
 -- Laws of carrying: what a round asks and what it changes, rounds after one another, and what is left when all surplus is gone.
-use Prim.Native.Nat.{ℕ, ◌+◌, ◌-◌, ◌≤◌, ◌<◌, min}
-use native.Mathlib.Omega.{arith}
-use mathlib.Core.Path.{◌≡◌, refl, ap, ◌∙◌}
-use mathlib.Core.List.{List}
-use mathlib.Core.Bool.{Bool, true, false}
-use mathlib.Core.Logic.{◌⊎◌, inl, inr, ⊎_elim}
-use lib.Dec.{T}
-use lib.ListN.{set, length-set, replicate, length-replicate, get_or-replicate}
-use lib.Seq.{get_or-set_other}
-use Rattle.network.specs.Network.{nth, live_at, sum_to, share, leaving, entering, Shape, LoadsTight, Lanes, Seeking, Fresh, TargetFound, Raised, Raisable, Laid, Bottleneck, Pushing, Carrying, Carries, OthersKept, Waiting, Carried, far, most_nodes}
-use Rattle.network.proofs.NetworkLaws.{same_or_not, nth_set, sum_change, sum_none, sum_term, sum_some, share_same, share_other, share_most}
+use Rattle.std.proofs.Common.{ℕ, ◌+◌, ◌-◌, ◌≤◌, ◌<◌, min, arith, ◌≡◌, refl, ap, ◌∙◌, List, Bool, ⊎_elim, set, length-set, replicate, get_or-set_other}
+use Rattle.std.proofs.lemmas.List.{length-replicate, get_or-replicate}
+use Rattle.network.specs.Network.{nth, sum_to, share, leaving, entering, Shape, LoadsTight, Lanes, Seeking, Fresh, TargetFound, Raised, Raisable, Laid, Bottleneck, Pushing, Carrying, Carries, OthersKept, Waiting, Carried, far, most_nodes}
+use Rattle.network.proofs.NetworkLaws.{nth_set, sum_change, sum_none, sum_term, sum_some, share_same, share_other, share_most}
 use Rattle.network.proofs.NetworkLawsRaise.{raised_slacks, raised_near, raised_loads, raisable, laid}
 use Rattle.network.proofs.NetworkLawsPush.{push_first}
 
@@ -149,66 +142,13 @@ module _ (N E : ℕ) (live : List Bool) (from to cost load mark surplus deficit 
               round_falls = let a = taken source in let b = share_same source source k refl in let c = round_less.2 in omega arith
 
 -- ---- rounds after one another
-pub carries_none : (N E : ℕ) (from to load surplus deficit : List ℕ) → Carries N E from to load surplus deficit load surplus deficit
-carries_none N E from to load surplus deficit = record { balance = λ u l. omega arith; root = omega arith }
-
-pub carries_more : (N E : ℕ) (from to l0 s0 d0 l1 s1 d1 l2 s2 d2 : List ℕ) → Carries N E from to l0 s0 d0 l1 s1 d1 → Carries N E from to l1 s1 d1 l2 s2 d2 →
-    Carries N E from to l0 s0 d0 l2 s2 d2
-carries_more N E from to l0 s0 d0 l1 s1 d1 l2 s2 d2 A B = record {
-  balance = λ u l. let a = A.balance u l in let b = B.balance u l in omega arith;
-  root = let a = A.root in let b = B.root in omega arith;
-}
-
-pub others_none : (source : ℕ) (s : List ℕ) → OthersKept source s s
-others_none source s = record { kept = λ u ne. refl }
-
-pub others_more : (source : ℕ) (s0 s1 s2 : List ℕ) → OthersKept source s0 s1 → OthersKept source s1 s2 → OthersKept source s0 s2
-others_more source s0 s1 s2 A B = record { kept = λ u ne. B.kept u ne ∙ A.kept u ne }
-
 -- the surplus of the first i nodes is gone
 pub record Gone (i : ℕ) (s : List ℕ) : Type 0 where
   pub gone : (u : ℕ) → u < i → nth s u ≡ 0
 
-pub gone_none : (s : List ℕ) → Gone 0 s
-gone_none s = record { gone = λ u l. absurd (omega arith) }
-
-pub gone_more : (i : ℕ) (s0 s1 : List ℕ) → Gone i s0 → OthersKept i s0 s1 → nth s1 i ≡ 0 → Gone (i + 1) s1
-gone_more i s0 s1 G K here = record
-    { gone = λ u l. ⊎_elim (λ e. ap (nth s1) e ∙ here) (λ ne. K.kept u ne ∙ G.gone u (omega arith)) (same_or_not u i) }
-
 -- ---- before the first round, and after the last
-live_or_not : (b : Bool) → T b ⊎ (T b → ⊥)
-live_or_not true = inl tt
-live_or_not false = inr (λ t. t)
-
 module _ (N E : ℕ) (live : List Bool) (from to cost load mark surplus deficit : List ℕ) (P : Shape N E live from to cost)
     (W : Waiting N E live load mark surplus deficit) where
-  pub waiting_carries : Carrying N E live from to cost load mark surplus deficit
-  waiting_carries = record {
-    load_long = W.load_long;
-    mark_long = W.mark_long;
-    surplus_long = W.surplus_long;
-    deficit_long = W.deficit_long;
-    slacks = λ e l.
-        let f = P.from_live e l in
-        let t = P.to_live e l in
-        let a = W.at_base (nth from e) f.0 f.1 in
-        let b = W.at_base (nth to e) t.0 t.1 in
-        omega arith;
-    tight = λ e l o. absurd (let a = W.no_load e l in omega arith);
-    near = record {
-      at_root = W.at_base 0 P.some_node P.root_live;
-      not_above = λ u un t. let a = W.at_base u un t in omega arith;
-      not_below = λ u un t. let a = W.at_base u un t in omega arith;
-    };
-    apart = λ u un l. ⊎_elim (λ z. absurd (omega arith)) (λ z. z) (W.apart u un);
-    surplus_live = λ u un l. ⊎_elim (λ t. t) (λ n. absurd (let a = (W.dead_none u un n).0 in omega arith)) (live_or_not (live_at live u));
-    deficit_live = λ u un l. ⊎_elim (λ t. t) (λ n. absurd (let a = (W.dead_none u un n).1 in omega arith)) (live_or_not (live_at live u));
-    same_sum = W.same_sum;
-    few = λ e l. let a = W.no_load e l in let b = W.few in omega arith;
-    few_left = W.few;
-  }
-
   nothing_leaves : (u : ℕ) → leaving from load E u ≡ 0
   unfolding leaving
   nothing_leaves u = sum_none E (λ e. share u (nth from e) (nth load e)) (λ e l. let a = W.no_load e l in let b = share_most u (nth from e) (nth load e) in omega arith)

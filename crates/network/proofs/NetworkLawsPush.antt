@@ -1,11 +1,5 @@
 -- Laws of moving an amount along the steps from the target back to the source: how much has room, and what one step changes.
-use Prim.Native.Nat.{ℕ, ◌+◌, ◌*◌, ◌-◌, ◌/◌, ◌%◌, ◌≤◌, ◌<◌, min}
-use native.Mathlib.Omega.{arith}
-use mathlib.Core.Path.{◌≡◌, refl, sym, ap, subst, ◌∙◌}
-use mathlib.Core.List.{List}
-use mathlib.Core.Logic.{⊎_elim, ◌≢◌}
-use lib.ListN.{length, set, length-set}
-use lib.Seq.{get_or-set_same, get_or-set_other}
+use Rattle.std.proofs.Common.{ℕ, ◌+◌, ◌*◌, ◌-◌, ◌/◌, ◌%◌, ◌≤◌, ◌<◌, min, arith, ◌≡◌, refl, sym, ap, subst, ◌∙◌, List, ⊎_elim, ◌≢◌, length, set, length-set, get_or-set_same, get_or-set_other}
 use Rattle.network.specs.Network.{nth, share, leaving, entering, LoadsTight, Ahead, Behind, Rung, ahead, behind, Trail, home, along, against, Laid, Bottleneck, Pushing, most_edges, most_moved}
 use Rattle.network.proofs.NetworkLaws.{same_or_not, nth_set, sum_change, share_same, share_other}
 
@@ -45,9 +39,6 @@ pub record Narrowed (N E : ℕ) (from to cost load mark via rank : List ℕ) (so
   pub back_to : (k : ℕ) → k ≤ r → Trail E from to cost load mark via rank source k v → Trail E from to cost load mark via rank source k target
 
 module _ (N E : ℕ) (from to cost load mark via rank : List ℕ) (source target limit : ℕ) (A : Laid N E from to cost load mark via rank source target) where
-  pub bottleneck_first : 1 ≤ limit → Narrowed N E from to cost load mark via rank source target limit target limit
-  bottleneck_first l = record { node = A.target_node; settled = A.target_settled; some = l; within = omega arith; back_to = λ k p t. t }
-
   module _ (v r : ℕ) (W : Narrowed N E from to cost load mark via rank source target limit v r) where
     pub bottleneck_last : v ≡ source → Bottleneck E from to cost load mark via rank source target limit r
     bottleneck_last q = record { some = W.some; within = W.within; trail = W.back_to r (omega arith) (home q) }
@@ -56,18 +47,9 @@ module _ (N E : ℕ) (from to cost load mark via rank : List ℕ) (source target
       the_rung : Rung E from to cost load mark via rank v
       the_rung = ⊎_elim (λ q. absurd (ne q)) (λ g. g) (A.rungs v W.node W.settled)
 
-      pub bottleneck_edge : nth via v / 2 < E
-      bottleneck_edge = ⊎_elim
-          (λ z. (rung_even E from to cost load mark via rank v the_rung z).edge)
-          (λ z. (rung_odd E from to cost load mark via rank v the_rung z).edge)
-          (same_or_not (nth via v % 2) 0)
-
       module _ (z : nth via v % 2 ≡ 0) where
         bottleneck_ahead : Ahead E from to cost mark rank v (nth via v / 2)
         bottleneck_ahead = rung_even E from to cost load mark via rank v the_rung z
-
-        pub bottleneck_falls : nth rank (nth from (nth via v / 2)) < nth rank v
-        bottleneck_falls = bottleneck_ahead.lower
 
         pub bottleneck_along : Narrowed N E from to cost load mark via rank source target limit (nth from (nth via v / 2)) r
         bottleneck_along = record {
@@ -81,9 +63,6 @@ module _ (N E : ℕ) (from to cost load mark via rank : List ℕ) (source target
       module _ (z : nth via v % 2 ≡ 0 → ⊥) where
         bottleneck_behind : Behind E from to load rank 1 v (nth via v / 2)
         bottleneck_behind = rung_odd E from to cost load mark via rank v the_rung z
-
-        pub bottleneck_falls_back : nth rank (nth to (nth via v / 2)) < nth rank v
-        bottleneck_falls_back = bottleneck_behind.lower
 
         odd : nth via v ≡ 2 * (nth via v / 2) + 1
         odd = let a = z in ⊎_elim (λ q. absurd (z q)) (λ ne. omega arith) (same_or_not (nth via v % 2) 0)
@@ -141,12 +120,6 @@ module _ (E : ℕ) (key load : List ℕ) (e : ℕ) (l : e < E) (room : e < lengt
 module _ (N E : ℕ) (from to cost mark via rank : List ℕ) (source target k : ℕ) (old : List ℕ) (v : ℕ) (load : List ℕ) (few : E ≤ most_edges)
     (from_node : (e : ℕ) → e < E → nth from e < N) (to_node : (e : ℕ) → e < E → nth to e < N)
     (P : Pushing N E from to cost mark via rank source target k old v load) (ne : v ≢ source) where
-  pub push_edge : nth via v / 2 < E
-  push_edge = ⊎_elim
-      (λ z. (trail_even E from to cost old mark via rank v source k P.trail ne z).0.edge)
-      (λ z. (trail_odd E from to cost old mark via rank v source k P.trail ne z).0.edge)
-      (same_or_not (nth via v % 2) 0)
-
   module _ (z : nth via v % 2 ≡ 0) where
     step_along : Ahead E from to cost mark rank v (nth via v / 2) × Trail E from to cost old mark via rank source k (nth from (nth via v / 2))
     step_along = trail_even E from to cost old mark via rank v source k P.trail ne z

@@ -1,66 +1,12 @@
 -- Laws of raising the marks: a turn of the loop, and that the raised marks keep every slack, keep loads tight, stay near and make the hops tight.
-use Prim.Native.Nat.{ℕ, ◌+◌, ◌-◌, ◌≤◌, ◌<◌, min}
-use native.Mathlib.Omega.{arith}
-use mathlib.Core.Path.{◌≡◌, refl, sym, ap, subst, ◌∙◌}
-use mathlib.Core.List.{List}
-use mathlib.Core.Bool.{Bool, true, false}
-use mathlib.Core.Logic.{inl, inr, ⊎_elim}
-use lib.Dec.{T}
-use lib.ListN.{length, set, length-set}
-use lib.Seq.{get_or-set_other}
-use Rattle.network.specs.Network.{nth, live_at, base, Shape, SlacksHold, LoadsTight, MarksNear, Hop, forward, back, TargetFound, Way, stop, step, span, Raisable, Raised, Rung, ahead, behind, Laid, most_nodes, farthest, highest}
-use Rattle.network.proofs.NetworkLaws.{below_or_not, nth_set}
-
-pub is_live : (b : Bool) → b ≡ true → T b
-is_live b e = subst T (sym e) tt
-
-pub is_dead : (b : Bool) → b ≡ false → T b → ⊥
-is_dead b e t = subst T e t
+use Rattle.std.proofs.Common.{ℕ, ◌+◌, ◌≤◌, ◌<◌, min, arith, ◌≡◌, ap, List, Bool, inl, inr, ⊎_elim, T, length}
+use Rattle.network.specs.Network.{nth, live_at, base, Shape, SlacksHold, LoadsTight, MarksNear, Hop, forward, back, TargetFound, Way, stop, step, span, Raisable, Raised, Rung, ahead, behind, Laid, most_nodes}
 
 -- ---- the loop: the first i nodes are raised
 pub record Raising (N i : ℕ) (live : List Bool) (dist : List ℕ) (most : ℕ) (old mark : List ℕ) : Type 0 where
   pub long : length mark ≡ most_nodes
   pub raised : (u : ℕ) → u < i → T (live_at live u) → nth mark u + min (nth dist 0) most ≡ nth old u + min (nth dist u) most
   pub as_before : (u : ℕ) → i ≤ u → nth mark u ≡ nth old u
-
-module _ (N : ℕ) (live : List Bool) (dist : List ℕ) (most : ℕ) (old : List ℕ) (A : Raisable N live dist most old) where
-  pub raise_none : Raising N 0 live dist most old old
-  raise_none = record { long = A.long; raised = λ u l. absurd (omega arith); as_before = λ u l. refl }
-
-  pub raise_all : (i : ℕ) (mark : List ℕ) → Raising N i live dist most old mark → N ≤ i → Raised N live dist most old mark
-  raise_all i mark R l = record { long = R.long; raised = λ u p. R.raised u (omega arith) }
-
-  module _ (i : ℕ) (mark : List ℕ) (R : Raising N i live dist most old mark) (l : i < N) where
-    pub raise_fits : T (live_at live i) → (min (nth dist 0) most ≤ nth mark i + min (nth dist i) most) × (nth mark i ≤ highest) × (most ≤ farthest)
-    raise_fits t =
-        let e = R.as_before i (omega arith) in
-        let a = A.room i l t in
-        let b = A.small i l t in
-        (omega arith, omega arith, A.not_far)
-
-    pub raise_one : T (live_at live i) → (more shift : ℕ) (x : List ℕ) → more ≡ min (nth dist i) most → shift ≡ min (nth dist 0) most →
-        x ≡ set mark i (nth mark i + more - shift) → Raising N (i + 1) live dist most old x
-    raise_one t more shift x em es ex =
-        let f = raise_fits t in
-        let here = R.as_before i (omega arith) in
-        let room : i < length mark = let a = A.few_nodes in let b = R.long in omega arith in
-        let new = nth mark i + more - shift in
-        rw ex (record {
-          long = length-set mark i new ∙ R.long;
-          raised = λ u p t. ⊎_elim
-              (λ s. let a = s.1 in let b = ap (nth old) s.0 in let d = ap (nth dist) s.0 in let g = f.0 in
-              subst (λ x. nth (set mark i new) u + min (nth dist 0) most ≡ nth old x + min (nth dist x) most) (sym s.0) (omega arith))
-              (λ o. let a = R.raised u (let n = o.0 in omega arith) t in let b = o.1 in omega arith)
-              (nth_set mark i new u room);
-          as_before = λ u p. get_or-set_other mark i u new 0 (λ q. omega arith) ∙ R.as_before u (omega arith);
-        })
-
-    pub raise_skip : (T (live_at live i) → ⊥) → (x : List ℕ) → x ≡ mark → Raising N (i + 1) live dist most old x
-    raise_skip dead x ex = rw ex (record {
-      long = R.long;
-      raised = λ u p t. ⊎_elim (λ b. R.raised u b t) (λ b. let e : u ≡ i = omega arith in absurd (dead (subst (λ x. T (live_at live x)) e t))) (below_or_not u i);
-      as_before = λ u p. R.as_before u (omega arith);
-    })
 
 -- ---- a value that grows by no more than the cost along each edge grows by no more than the cost along a way
 pub way_most : {E : ℕ} {from to cost : List ℕ} {u w c : ℕ} (f : ℕ → ℕ) → ((e : ℕ) → e < E → f (nth to e) ≤ nth cost e + f (nth from e)) →

@@ -1,12 +1,6 @@
 -- Laws of the search over plain lists: the scan for the nearest node, a distance taken, an edge passed, a node settled, and what is found.
-use Prim.Native.Nat.{ℕ, ◌+◌, ◌*◌, ◌-◌, ◌≤◌, ◌<◌}
-use native.Mathlib.Omega.{arith}
-use mathlib.Core.Path.{◌≡◌, refl, sym, ap, subst, ◌∙◌}
-use mathlib.Core.List.{List}
-use mathlib.Core.Logic.{◌⊎◌, inl, inr, ⊎_elim, ◌≢◌}
-use lib.ListN.{set, length-set}
-use lib.Seq.{get_or-set_same, get_or-set_other}
-use Rattle.network.specs.Network.{nth, Chained, Lanes, Growing, Nearest, Lowered, nearer, kept, Hop, forward, back, far, widest, most_nodes, most_edges, farthest, most_cost, highest}
+use Rattle.std.proofs.Common.{ℕ, ◌+◌, ◌*◌, ◌-◌, ◌≤◌, ◌<◌, arith, ◌≡◌, refl, sym, ap, subst, ◌∙◌, List, ◌⊎◌, inl, inr, ⊎_elim, ◌≢◌, set, length-set, get_or-set_same, get_or-set_other}
+use Rattle.network.specs.Network.{nth, Chained, Lanes, Growing, Lowered, nearer, kept, Hop, forward, back, far, widest, farthest}
 use Rattle.network.proofs.NetworkLaws.{same_or_not, below_or_not, nth_set}
 
 -- ---- the scan for the nearest node, after v nodes
@@ -17,60 +11,6 @@ pub record Scanned (N v : ℕ) (dist rank : List ℕ) (best least : ℕ) : Type 
   pub reached : best < N → least < far
   pub its : best < N → nth dist best ≡ least
   pub all : (w : ℕ) → w < v → N ≤ nth rank w → nth dist w < far → least ≤ nth dist w
-
-pub scan_none : (N : ℕ) (dist rank : List ℕ) → Scanned N 0 dist rank N far
-scan_none N dist rank = record {
-  node = omega arith;
-  none_yet = λ _. refl;
-  open_still = λ l. absurd (omega arith);
-  reached = λ l. absurd (omega arith);
-  its = λ l. absurd (omega arith);
-  all = λ w l. absurd (omega arith);
-}
-
-scan_most : (N v : ℕ) (dist rank : List ℕ) (best least : ℕ) → Scanned N v dist rank best least → least ≤ far
-scan_most N v dist rank best least S =
-    ⊎_elim (λ l. omega (arith, S.reached l)) (λ g. let h = S.node in omega (arith, S.none_yet (omega arith))) (below_or_not best N)
-
--- v is open and nearer than the best so far
-pub scan_taken : (N v : ℕ) (dist rank : List ℕ) (best least b l : ℕ) → Scanned N v dist rank best least → v < N → N ≤ nth rank v → nth dist v < least →
-    b ≡ v → l ≡ nth dist v → Scanned N (v + 1) dist rank b l
-scan_taken N v dist rank best least b l S p r d eb el =
-    let f = scan_most N v dist rank best least S in
-    rw (eb, el) (record {
-      node = omega arith;
-      none_yet = λ e. absurd (omega arith);
-      open_still = λ _. r;
-      reached = λ _. omega arith;
-      its = λ _. refl;
-      all = λ w p q g. ⊎_elim (λ b. omega (arith, S.all w b q g)) (λ a. let e : w ≡ v = omega arith in omega (arith, ap (nth dist) e)) (below_or_not w v);
-    })
-
--- v is settled, or no nearer
-pub scan_passed : (N v : ℕ) (dist rank : List ℕ) (best least b l : ℕ) → Scanned N v dist rank best least → (N ≤ nth rank v → least ≤ nth dist v) →
-    b ≡ best → l ≡ least → Scanned N (v + 1) dist rank b l
-scan_passed N v dist rank best least b l S o eb el = rw (eb, el) (record {
-  node = S.node;
-  none_yet = S.none_yet;
-  open_still = S.open_still;
-  reached = S.reached;
-  its = S.its;
-  all = λ w p q g. ⊎_elim
-      (λ b. S.all w b q g)
-      (λ a. let e : w ≡ v = omega arith in omega (arith, ap (nth dist) e, o (omega (arith, ap (nth rank) e))))
-      (below_or_not w v);
-})
-
-pub scan_all : (N v : ℕ) (dist rank : List ℕ) (best least : ℕ) → Scanned N v dist rank best least → N ≤ v → Nearest N dist rank best
-scan_all N v dist rank best least S g = record {
-  node = S.node;
-  open_still = S.open_still;
-  reached = λ l. omega (arith, S.reached l, S.its l);
-  least = λ w p q d.
-      let n = S.node in
-      let lw : least ≤ nth dist w = S.all w (omega arith) q d in
-      ⊎_elim (λ l. (l, omega (arith, S.its l))) (λ o. absurd (omega (arith, S.none_yet (omega arith)))) (below_or_not best N);
-}
 
 -- ---- a distance taken, an edge passed
 module _ (N E : ℕ) (from to cost load mark : List ℕ) (source u h k count : ℕ) (dist via rank : List ℕ) where
@@ -244,31 +184,7 @@ module _ (N E : ℕ) (from to cost load mark : List ℕ) (source u count f g d :
       Growing N E from to cost load mark source u 0 g count dist via rank
   back_unloaded G rest none = back_passed N E from to cost load mark source u 0 (f + 1) count dist via rank L G f g refl rest (λ o. absurd (omega arith))
 
--- the chain of u holds every edge of u, so none is passed yet where it begins
-module _ (N E : ℕ) (from to cost load mark : List ℕ) (source u count : ℕ) (dist via rank : List ℕ) (L : Lanes N E from to cost mark) where
-  pub out_begun : (h : ℕ) → ((e : ℕ) → e < E → nth from e ≡ u → e < h) → Growing N E from to cost load mark source u E E count dist via rank →
-      Growing N E from to cost load mark source u h E count dist via rank
-  out_begun h all G =
-      renew N E from to cost load mark source u E E count dist via rank h E G
-      (λ e l r t. G.relaxed e l r (λ q. absurd (let a = all e l q in let b = t q in omega arith)))
-      G.relaxed_back
-
-  pub back_begun : (k : ℕ) → ((e : ℕ) → e < E → nth to e ≡ u → e < k) → Growing N E from to cost load mark source u 0 E count dist via rank →
-      Growing N E from to cost load mark source u 0 k count dist via rank
-  back_begun k all G =
-      renew N E from to cost load mark source u 0 E count dist via rank 0 k G
-      G.relaxed
-      (λ e l o r t. G.relaxed_back e l o r (λ q. absurd (let a = all e l q in let b = t q in omega arith)))
-
--- ---- what keeps a turn safe: h - 1 is the edge at hand, other its other end
-pub record OutSafe (E h here u : ℕ) (to cost mark next : List ℕ) : Type 0 where
-  pub edge : h - 1 < E
-  pub end_node : nth to (h - 1) < most_nodes
-  pub sum : nth cost (h - 1) + nth mark u ≤ most_cost + highest
-  pub slack : nth mark (nth to (h - 1)) ≤ nth cost (h - 1) + nth mark u
-  pub here_small : here ≤ farthest
-  pub fewer : nth next (h - 1) < h
-
+-- ---- how far the node at hand can be
 module _ (N E : ℕ) (from to cost load mark : List ℕ) (source u h k count here : ℕ) (dist via rank : List ℕ) (L : Lanes N E from to cost mark)
     (G : Growing N E from to cost load mark source u h k count dist via rank) where
   -- no more are settled than there are
@@ -278,21 +194,6 @@ module _ (N E : ℕ) (from to cost load mark : List ℕ) (source u h k count her
   pub here_far : nth dist u ≤ farthest
   here_far = omega (arith, G.here_near, count_most, L.few_nodes)
 
-  pub out_safe : (head next : List ℕ) → Chained N E from head next → h ≤ E → 0 < h → ((f : ℕ) → h ≡ f + 1 → nth from f ≡ u) → nth dist u ≡ here →
-      OutSafe E h here u to cost mark next
-  out_safe head next C h_e pos key hd =
-      let l : h - 1 < E = omega arith in
-      let m = ap (nth mark) (key (h - 1) (omega arith)) in
-      let n = L.few_nodes in
-      record {
-        edge = l;
-        end_node = omega (arith, L.to_node (h - 1) l);
-        sum = omega (arith, L.small (h - 1) l);
-        slack = omega (arith, L.least (h - 1) l);
-        here_small = omega (arith, here_far);
-        fewer = omega (arith, C.next_below (h - 1) l);
-      }
-
 -- ---- the walk along the chain of u: what holds where h is the next edge's number plus 1
 module _ (N E : ℕ) (from to cost load mark : List ℕ) (source u count here : ℕ) (rank : List ℕ) where
   abbrev pub OutWalk : ℕ → List ℕ → List ℕ → Type 0
@@ -300,15 +201,6 @@ module _ (N E : ℕ) (from to cost load mark : List ℕ) (source u count here : 
       (h ≤ E) × ((f : ℕ) → h ≡ f + 1 → nth from f ≡ u) × (nth dist u ≡ here) × Growing N E from to cost load mark source u h E count dist via rank
 
   module _ (head next dist via : List ℕ) (L : Lanes N E from to cost mark) where
-    pub out_first : Chained N E from head next → Growing N E from to cost load mark source u E E count dist via rank → nth dist u ≡ here →
-        OutWalk (nth head u) dist via
-    out_first C G d = (
-      C.head_below u G.node,
-      C.head_key u G.node,
-      d,
-      out_begun N E from to cost load mark source u count dist via rank L (nth head u) (C.head_all u G.node) G,
-    )
-
     pub out_again : Chained N E from head next → (h : ℕ) → OutWalk h dist via → 0 < h → (dist' via' : List ℕ) →
         Lowered dist via (nth to (h - 1)) (here + (nth cost (h - 1) + nth mark u - nth mark (nth to (h - 1)))) (2 * (h - 1)) dist' via' →
         OutWalk (nth next (h - 1)) dist' via'
@@ -330,15 +222,6 @@ module _ (N E : ℕ) (from to cost load mark : List ℕ) (source u count here : 
       (k ≤ E) × ((f : ℕ) → k ≡ f + 1 → nth to f ≡ u) × (nth dist u ≡ here) × Growing N E from to cost load mark source u 0 k count dist via rank
 
   module _ (head next dist via : List ℕ) (L : Lanes N E from to cost mark) where
-    pub back_first : Chained N E to head next → Growing N E from to cost load mark source u 0 E count dist via rank → nth dist u ≡ here →
-        BackWalk (nth head u) dist via
-    back_first C G d = (
-      C.head_below u G.node,
-      C.head_key u G.node,
-      d,
-      back_begun N E from to cost load mark source u count dist via rank L (nth head u) (C.head_all u G.node) G,
-    )
-
     module _ (C : Chained N E to head next) (k : ℕ) (w : BackWalk k dist via) (pos : 0 < k) where
       edge : k - 1 < E
       edge = let a = w.0 in omega arith
@@ -354,13 +237,6 @@ module _ (N E : ℕ) (from to cost load mark : List ℕ) (source u count here : 
 
       rest : (e : ℕ) → e < k - 1 → nth to e ≡ u → e < nth next (k - 1)
       rest e b q = C.next_all (k - 1) edge e b (q ∙ sym (w.1 (k - 1) is_next))
-
-      pub back_safe : (k - 1 < most_edges) × (nth from (k - 1) < most_nodes) × (nth next (k - 1) < k)
-      back_safe =
-          let a = edge in
-          let b = L.few_edges in
-          let d = L.few_nodes in
-          (omega arith, omega (arith, L.from_node (k - 1) a), omega (arith, C.next_below (k - 1) a))
 
       pub back_again : 0 < nth load (k - 1) → (dist' via' x y : List ℕ) → Lowered dist via (nth from (k - 1)) here (2 * (k - 1) + 1) dist' via' →
           x ≡ dist' → y ≡ via' → BackWalk (nth next (k - 1)) x y

@@ -1,11 +1,5 @@
 -- Laws of the search as a whole: how it begins, that a node with a deficit is always reached, the next node settled, and what is found.
-use Prim.Native.Nat.{ℕ, ◌+◌, ◌≤◌, ◌<◌}
-use native.Mathlib.Omega.{arith}
-use mathlib.Core.Path.{◌≡◌, sym, ap, ◌∙◌}
-use mathlib.Core.List.{List}
-use mathlib.Core.Logic.{◌⊎◌, inl, inr, ⊎_elim, ◌≢◌}
-use lib.ListN.{set, length-set}
-use lib.Seq.{get_or-set_same, get_or-set_other}
+use Rattle.std.proofs.Common.{ℕ, ◌+◌, ◌≤◌, ◌<◌, arith, ◌≡◌, sym, ap, ◌∙◌, List, ◌⊎◌, inl, inr, ⊎_elim, ◌≢◌, set, length-set, get_or-set_same, get_or-set_other}
 use Rattle.network.specs.Network.{nth, sum_to, share, Lanes, Growing, Nearest, Seeking, Fresh, Hop, forward, back, TargetFound, Way, stop, step, far, most_nodes, farthest}
 use Rattle.network.proofs.NetworkLaws.{same_or_not, below_or_not, nth_set, sum_change, sum_ones, sum_term, share_same, share_other}
 use Rattle.network.proofs.NetworkLawsSearch.{here_far}

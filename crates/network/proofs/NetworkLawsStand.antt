@@ -1,14 +1,8 @@
 -- Laws of the test of a guess: a turn of each loop, the sums at the nodes, that what stands the test carries everything, and what a guess that does not is
 -- set back to.
-use Prim.Native.Nat.{ℕ, ◌+◌, ◌*◌, ◌≤◌, ◌<◌}
-use native.Mathlib.Omega.{arith}
-use mathlib.Core.Path.{◌≡◌, sym, ap, ◌∙◌}
-use mathlib.Core.List.{List}
-use mathlib.Core.Bool.{Bool, true, false}
-use mathlib.Core.Logic.{⊎_elim}
-use borrow.Author.Count.{below_more}
-use lib.ListN.{length, set, length-set, replicate, length-replicate, get_or-replicate}
-use Rattle.network.specs.Network.{nth, sum_to, share, leaving, entering, base, most_nodes, most_edges, most_moved, Keys, Shape, Waiting, Carried, Ends, EdgeStands, EdgesStand, Summable, Tallied, Comparable, Even, Movable, LoadsStand, Stands, Emptied, Levelled}
+use Rattle.std.proofs.Common.{ℕ, ◌+◌, ◌*◌, ◌≤◌, ◌<◌, arith, ◌≡◌, sym, ap, ◌∙◌, List, Bool, true, false, ⊎_elim, length, set, length-set, replicate}
+use Rattle.std.proofs.lemmas.List.{length-replicate, get_or-replicate}
+use Rattle.network.specs.Network.{nth, sum_to, share, leaving, entering, base, most_nodes, most_edges, most_moved, Shape, Waiting, Carried, Ends, EdgeStands, EdgesStand, Summable, Tallied, Comparable, Even, Movable, LoadsStand, Stands, Emptied, Levelled}
 use Rattle.network.proofs.NetworkLaws.{nth_set, sum_more, sum_part, sum_low, sum_term, share_same, share_other, share_most}
 use Rattle.network.proofs.NetworkLawsRaise.{slacks_near}
 
@@ -18,18 +12,11 @@ never q = absurd (let z : ◌≡◌ {A = ℕ} 0 1 = cc in omega arith)
 
 -- ---- the edges
 
-pub edge_loose : {cost back ahead load : ℕ} → ahead ≤ cost + back → load ≡ 0 → EdgeStands cost back ahead load
-edge_loose s z = record { slack = s; tight = λ o. absurd (omega arith); few = omega arith }
-
 pub edge_tight : {cost back ahead load : ℕ} → ahead ≡ cost + back → load ≤ most_moved → EdgeStands cost back ahead load
 edge_tight e l = record { slack = omega arith; tight = λ o. e; few = l }
 
 pub edges_none : (from to cost load mark : List ℕ) → EdgesStand 0 from to cost load mark
 edges_none from to cost load mark = record { each = λ e l. absurd (omega arith) }
-
-pub edges_more : (k : ℕ) (from to cost load mark : List ℕ) → EdgesStand k from to cost load mark →
-    EdgeStands (nth cost k) (nth mark (nth from k)) (nth mark (nth to k)) (nth load k) → EdgesStand (k + 1) from to cost load mark
-edges_more k from to cost load mark S h = record { each = below_more _ _ S.each h }
 
 -- ---- sums
 
@@ -102,13 +89,6 @@ comparable {N = N} {E = E} {from = from} {to = to} {load = load} {into = into} {
           omega (arith, sum_fits N E E from load out S.low (omega arith) t.left u l, S.ends.few_edges, sum_term N u (λ v. nth deficit v) l, M.few_wanted);
     }
 
-pub even_none : (into out surplus deficit : List ℕ) → Even 0 into out surplus deficit
-even_none into out surplus deficit = record { each = λ u l. absurd (omega arith) }
-
-pub even_more : (k : ℕ) (into out surplus deficit : List ℕ) → Even k into out surplus deficit → nth out k + nth deficit k ≡ nth into k + nth surplus k →
-    Even (k + 1) into out surplus deficit
-even_more k into out surplus deficit B h = record { each = below_more _ _ B.each h }
-
 pub loads_stand : {N E : ℕ} {from to load into out surplus deficit : List ℕ} {all : ℕ} → 1 ≤ N → Tallied N E from to load into out →
     all ≡ sum_to N (λ u. nth surplus u) → nth out 0 ≤ all → Even N into out surplus deficit → LoadsStand N E from to load surplus deficit
 loads_stand some t e l B =
@@ -128,33 +108,6 @@ summable n e = record { ends = n; low = λ d l. (e.each d l).few }
 -- ---- where the network has its shape
 
 module _ (N E : ℕ) (live : List Bool) (from to cost : List ℕ) (P : Shape N E live from to cost) where
-  pub shape_ends : Ends N E from to
-  shape_ends = record {
-    some_node = P.some_node;
-    few_nodes = P.few_nodes;
-    few_edges = P.few_edges;
-    from_node = λ e l. (P.from_live e l).0;
-    to_node = λ e l. (P.to_live e l).0;
-  }
-
-  pub keys_from : (head next : List ℕ) → length head ≡ most_nodes → length next ≡ most_edges → Keys N E from head next
-  keys_from head next h n = record {
-    few_nodes = P.few_nodes;
-    few_edges = P.few_edges;
-    key_node = λ e l. (P.from_live e l).0;
-    head_long = h;
-    next_long = n;
-  }
-
-  pub keys_to : (head next : List ℕ) → length head ≡ most_nodes → length next ≡ most_edges → Keys N E to head next
-  keys_to head next h n = record {
-    few_nodes = P.few_nodes;
-    few_edges = P.few_edges;
-    key_node = λ e l. (P.to_live e l).0;
-    head_long = h;
-    next_long = n;
-  }
-
   -- what stands the test carries everything
   pub stands_carried : (load mark surplus deficit : List ℕ) → Stands N E from to cost load mark surplus deficit → (given wanted : ℕ → ℕ) →
       ((u : ℕ) → u < N → nth surplus u + wanted u ≡ nth deficit u + given u) →
@@ -168,33 +121,7 @@ module _ (N E : ℕ) (live : List Bool) (from to cost : List ℕ) (P : Shape N E
     few = λ e l. (S.edges.each e l).few;
   }
 
-pub waiting_movable : (N E : ℕ) (live : List Bool) (load mark surplus deficit : List ℕ) → N ≤ most_nodes → Waiting N E live load mark surplus deficit →
-    Movable N surplus deficit
-waiting_movable N E live load mark surplus deficit few W = record {
-  few_nodes = few;
-  few = W.few;
-  few_wanted = let a = W.few in let b = W.same_sum in omega arith;
-}
-
 -- ---- set back
-
-pub emptied_none : (load : List ℕ) → length load ≡ most_edges → Emptied 0 load
-emptied_none load long = record { long = long; nothing = λ e l. absurd (omega arith) }
-
-pub emptied_more : (e : ℕ) (load : List ℕ) → Emptied e load → e < most_edges → Emptied (e + 1) (set load e 0)
-emptied_more e load C h = record {
-  long = length-set load e 0 ∙ C.long;
-  nothing = λ d p. ⊎_elim (λ s. s.1) (λ o. o.1 ∙ C.nothing d (omega arith)) (nth_set load e 0 d (omega (arith, C.long)));
-}
-
-pub levelled_none : (mark : List ℕ) → length mark ≡ most_nodes → Levelled 0 mark
-levelled_none mark long = record { long = long; at_base = λ u l. absurd (omega arith) }
-
-pub levelled_more : (u : ℕ) (mark : List ℕ) → Levelled u mark → u < most_nodes → Levelled (u + 1) (set mark u base)
-levelled_more u mark C h = record {
-  long = length-set mark u base ∙ C.long;
-  at_base = λ v p. ⊎_elim (λ s. s.1) (λ o. o.1 ∙ C.at_base v (omega arith)) (nth_set mark u base v (omega (arith, C.long)));
-}
 
 -- everything waits again
 pub waiting_again : (N E : ℕ) (live : List Bool) (load mark load' mark' surplus deficit : List ℕ) → Waiting N E live load mark surplus deficit →

@@ -106,18 +106,11 @@ pub record Chained (N E : ℕ) (key head next : List ℕ) : Type 0 where
   pub next_key : (f : ℕ) → f < E → (g : ℕ) → nth next f ≡ g + 1 → nth key g ≡ nth key f
   pub next_all : (f : ℕ) → f < E → (e : ℕ) → e < f → nth key e ≡ nth key f → e < nth next f
 
--- what building a chain asks: the keys are nodes, and the arrays are as long as they are
-pub record Keys (N E : ℕ) (key head next : List ℕ) : Type 0 where
+-- what building a chain asks: the keys are nodes
+pub record Keys (N E : ℕ) (key : List ℕ) : Type 0 where
   pub few_nodes : N ≤ most_nodes
   pub few_edges : E ≤ most_edges
   pub key_node : (e : ℕ) → e < E → nth key e < N
-  pub head_long : length head ≡ most_nodes
-  pub next_long : length next ≡ most_edges
-
--- the first N are 0
-pub record Cleared (N : ℕ) (head : List ℕ) : Type 0 where
-  pub long : length head ≡ most_nodes
-  pub nothing : (u : ℕ) → u < N → nth head u ≡ 0
 
 -- every slack is at least 0: cost plus the mark an edge comes from is not below the mark it goes to
 abbrev pub SlacksHold : ℕ → List ℕ → List ℕ → List ℕ → List ℕ → Type 0

@@ -6,12 +6,15 @@
 // The test of a guess.
 pub mod stands;
 
-ghost use Rattle.std.specs.Prelude.{◌≡◌, ℕ, ◌+◌, ◌*◌, ◌<◌, ◌≤◌, min, length, true};
-ghost use Rattle.network.specs.Network.{nth, Chained, Keys, Cleared, Lanes, Growing, Nearest, Lowered, Seeking, Fresh, TargetFound, Raisable, Raised, Laid, Bottleneck, Pushing, Shape, Carrying, Carries, OthersKept, Waiting, Carried, sum_to, most_nodes, most_edges, Ends, Movable, Stands, Emptied, Levelled};
+ghost use Rattle.std.specs.Prelude.{◌≡◌, ℕ, ◌+◌, ◌*◌, ◌<◌, ◌≤◌, length, true};
+ghost use Rattle.network.specs.Network.{nth, Chained, Keys, Lanes, Growing, Nearest, Lowered, Seeking, Fresh, TargetFound, Raisable, Raised, Laid, Bottleneck, Pushing, Shape, Carrying, Carries, OthersKept, Waiting, Carried, sum_to, most_nodes, most_edges, Ends, Movable, Stands, Emptied, Levelled};
 ghost use Rattle.pivot.specs.Sizes.{PerNode, PerEdge};
 
 use crate::stands::stands;
 use pivot::guess;
+
+// What travels together: a network, its chains of edges, what has to move in it, and a flow.
+pub use pivot::{Balance, Chains, Flow, Network};
 
 // How many nodes and edges there are at the most: as long are the arrays.
 pub const NODES: usize = pivot::NODES;
@@ -26,60 +29,30 @@ pub const BASE: u64 = 2_000_000_000;
 
 pub const SPAN: u64 = 1_000_000_000 + 63 * 1_000_000;
 
-// No edge is in a chain yet.
-fn clear(nodes: usize, head: &mut [usize; NODES])
-    requires { (nodes ≤ most_nodes) × (length head.old ≡ most_nodes) }
-    ensures { Cleared nodes head.new }
-{
-    let mut u: usize = 0;
-    while u < nodes {
-        head[u] = 0;
-        u += 1;
-    }
-}
-
 // The edges of each node as a chain, so that a search looks only at the edges of the nodes that it settles.
-pub fn chain(
-    nodes: usize,
-    edges: usize,
-    key: &[usize; EDGES],
-    head: &mut [usize; NODES],
-    next: &mut [usize; EDGES],
-)
-    requires { Keys nodes edges key.now head.old next.old }
-    ensures { Chained nodes edges key.now head.new next.new }
+pub fn chain(nodes: usize, edges: usize, key: &[usize; EDGES]) -> Chains
+    requires { Keys nodes edges key.now }
+    ensures { Chained nodes edges key.now result.head result.next }
 {
-    clear(nodes, head);
-    let mut e: usize = 0;
-    while e < edges {
+    let mut chains = Chains::empty();
+    for e in 0..edges {
         let u = key[e];
-        next[e] = head[u];
-        head[u] = e + 1;
-        e += 1;
+        chains.next[e] = chains.head[u];
+        chains.head[u] = e + 1;
     }
+    chains
 }
 
 // A node that is not reached yet is this far away: further than any way.
 const FAR: u64 = 1_152_921_504_606_846_976;
 
-// The nearest of the nodes that are reached and not settled (a settled node's rank is below `nodes`); `nodes` where there is none.
-fn nearest(nodes: usize, dist: &[u64; NODES], rank: &[usize; NODES]) -> usize
-    requires { nodes ≤ most_nodes }
-    ensures { Nearest nodes dist.now rank.now result }
-{
-    let mut best = nodes;
-    let mut least = FAR;
-    let mut v: usize = 0;
-    while v < nodes {
-        if rank[v] >= nodes {
-            if dist[v] < least {
-                best = v;
-                least = dist[v];
-            }
-        }
-        v += 1;
-    }
-    best
+// What a search knows of each node: how far it is, the edge by which it was reached (2e where it is taken forward, 2e + 1 where it is taken back), and how
+// many were settled before it (the number of nodes, where it is not settled).
+#[derive(Drop)]
+struct Search {
+    dist: [u64; NODES],
+    via: [usize; NODES],
+    rank: [usize; NODES],
 }
 
 // Takes the distance d to v, reached as `hop` says, where it is less than what was known.
@@ -93,156 +66,144 @@ fn lower(v: usize, d: u64, hop: usize, dist: &mut [u64; NODES], via: &mut [usize
     }
 }
 
-// Looks at the edges that leave u: along each its end may be nearer than was known.
-fn relax_out(
-    nodes: usize,
-    edges: usize,
-    from: &[usize; EDGES],
-    to: &[usize; EDGES],
-    cost: &[u64; EDGES],
-    load: &[u64; EDGES],
-    mark: &[u64; NODES],
-    head: &[usize; NODES],
-    next: &[usize; EDGES],
-    source: usize,
-    u: usize,
-    count: usize,
-    dist: &mut [u64; NODES],
-    via: &mut [usize; NODES],
-    rank: &[usize; NODES],
-)
-    requires lanes { Lanes nodes edges from.now to.now cost.now mark.now }
-    requires chained { Chained nodes edges from.now head.now next.now }
-    requires growing { Growing nodes edges from.now to.now cost.now load.now mark.now source u edges edges count dist.old via.old rank.now }
-    ensures { Growing nodes edges from.now to.now cost.now load.now mark.now source u 0 edges count dist.new via.new rank.now }
-{
-    let here = dist[u];
-    let high = mark[u];
-    let mut h = head[u];
-    while h > 0 {
-        let e = h - 1;
-        let v = to[e];
-        let d = here + (cost[e] + high - mark[v]);
-        lower(v, d, 2 * e, dist, via);
-        h = next[e];
-    }
-}
-
-// Looks at the loaded edges that enter u: a load can be taken back at no cost, since a loaded edge has slack 0.
-fn relax_back(
-    nodes: usize,
-    edges: usize,
-    from: &[usize; EDGES],
-    to: &[usize; EDGES],
-    cost: &[u64; EDGES],
-    load: &[u64; EDGES],
-    mark: &[u64; NODES],
-    head: &[usize; NODES],
-    next: &[usize; EDGES],
-    source: usize,
-    u: usize,
-    count: usize,
-    dist: &mut [u64; NODES],
-    via: &mut [usize; NODES],
-    rank: &[usize; NODES],
-)
-    requires lanes { Lanes nodes edges from.now to.now cost.now mark.now }
-    requires chained { Chained nodes edges to.now head.now next.now }
-    requires growing { Growing nodes edges from.now to.now cost.now load.now mark.now source u 0 edges count dist.old via.old rank.now }
-    ensures { Growing nodes edges from.now to.now cost.now load.now mark.now source u 0 0 count dist.new via.new rank.now }
-{
-    let here = dist[u];
-    let mut h = head[u];
-    while h > 0 {
-        let e = h - 1;
-        if load[e] > 0 {
-            let v = from[e];
-            lower(v, here, 2 * e + 1, dist, via);
+impl Search {
+    // Nothing is reached yet.
+    fn new(nodes: usize) -> Search
+        requires { nodes ≤ most_nodes }
+        ensures { Fresh nodes result.dist result.via result.rank }
+    {
+        Search {
+            dist: [FAR; NODES],
+            via: [0; NODES],
+            rank: [nodes; NODES],
         }
-        h = next[e];
     }
-}
 
-// Looks at all edges of u, the node settled last.
-fn relax(
-    nodes: usize,
-    edges: usize,
-    from: &[usize; EDGES],
-    to: &[usize; EDGES],
-    cost: &[u64; EDGES],
-    load: &[u64; EDGES],
-    mark: &[u64; NODES],
-    headout: &[usize; NODES],
-    nextout: &[usize; EDGES],
-    headin: &[usize; NODES],
-    nextin: &[usize; EDGES],
-    source: usize,
-    u: usize,
-    count: usize,
-    dist: &mut [u64; NODES],
-    via: &mut [usize; NODES],
-    rank: &[usize; NODES],
-)
-    requires lanes { Lanes nodes edges from.now to.now cost.now mark.now }
-    requires chained { Chained nodes edges from.now headout.now nextout.now }
-    requires chained_2 { Chained nodes edges to.now headin.now nextin.now }
-    requires growing { Growing nodes edges from.now to.now cost.now load.now mark.now source u edges edges count dist.old via.old rank.now }
-    ensures { Growing nodes edges from.now to.now cost.now load.now mark.now source u 0 0 count dist.new via.new rank.now }
-{
-    relax_out(
-        nodes, edges, from, to, cost, load, mark, headout, nextout, source, u, count, dist, via,
-        rank,
-    );
-    relax_back(
-        nodes, edges, from, to, cost, load, mark, headin, nextin, source, u, count, dist, via, rank,
-    );
-}
-
-// The nearest node with a deficit, by the search of Dijkstra on slacks: the nearest node is settled, its edges are looked at, and so on.
-fn search(
-    nodes: usize,
-    edges: usize,
-    from: &[usize; EDGES],
-    to: &[usize; EDGES],
-    cost: &[u64; EDGES],
-    load: &[u64; EDGES],
-    mark: &[u64; NODES],
-    headout: &[usize; NODES],
-    nextout: &[usize; EDGES],
-    headin: &[usize; NODES],
-    nextin: &[usize; EDGES],
-    deficit: &[u64; NODES],
-    source: usize,
-    dist: &mut [u64; NODES],
-    via: &mut [usize; NODES],
-    rank: &mut [usize; NODES],
-) -> usize
-    requires seeking { Seeking nodes edges from.now to.now cost.now mark.now deficit.now source }
-    requires chained { Chained nodes edges from.now headout.now nextout.now }
-    requires chained_2 { Chained nodes edges to.now headin.now nextin.now }
-    requires fresh { Fresh nodes dist.old via.old rank.old }
-    ensures { TargetFound nodes edges from.now to.now cost.now load.now mark.now deficit.now source result dist.new via.new rank.new }
-{
-    dist[source] = 0;
-    rank[source] = 0;
-    let mut u = source;
-    let mut count: usize = 1;
-    while deficit[u] == 0 {
-        relax(
-            nodes, edges, from, to, cost, load, mark, headout, nextout, headin, nextin, source, u,
-            count, dist, via, rank,
-        );
-        u = nearest(nodes, dist, rank);
-        rank[u] = count;
-        count += 1;
+    // The nearest of the nodes that are reached and not settled; `nodes` where there is none.
+    // Kept: the new form is no plainer: `find` has shown that there is one, so an Option here would only be taken apart again there.
+    fn nearest(&self, nodes: usize) -> usize
+        requires { nodes ≤ most_nodes }
+        ensures { Nearest nodes self.now.dist self.now.rank result }
+    {
+        let mut best = nodes;
+        let mut least = FAR;
+        for v in 0..nodes {
+            if self.rank[v] >= nodes && self.dist[v] < least {
+                best = v;
+                least = self.dist[v];
+            }
+        }
+        best
     }
-    u
-}
 
-fn lesser(a: u64, b: u64) -> u64
-    ensures { result ≡ min a b }
-{
-    if a < b { a } else { b }
+    // Looks at the edges that leave u: along each its end may be nearer than was known.
+    fn relax_out(
+        &mut self,
+        network: &Network,
+        flow: &Flow,
+        out: &Chains,
+        source: usize,
+        u: usize,
+        count: usize,
+    )
+        requires lanes { Lanes network.now.nodes network.now.edges network.now.from network.now.to network.now.cost flow.now.mark }
+        requires chained { Chained network.now.nodes network.now.edges network.now.from out.now.head out.now.next }
+        requires growing { Growing network.now.nodes network.now.edges network.now.from network.now.to network.now.cost flow.now.load flow.now.mark source u network.now.edges network.now.edges count self.old.dist self.old.via self.old.rank }
+        ensures growing_2 { Growing network.now.nodes network.now.edges network.now.from network.now.to network.now.cost flow.now.load flow.now.mark source u 0 network.now.edges count self.new.dist self.new.via self.old.rank }
+        ensures ranks { self.new.rank ≡ self.old.rank }
+    {
+        let here = self.dist[u];
+        let high = flow.mark[u];
+        let mut h = out.head[u];
+        while h > 0 {
+            let e = h - 1;
+            let v = network.to[e];
+            let d = here + (network.cost[e] + high - flow.mark[v]);
+            lower(v, d, 2 * e, &mut self.dist, &mut self.via);
+            h = out.next[e];
+        }
+    }
+
+    // Looks at the loaded edges that enter u: a load can be taken back at no cost, since a loaded edge has slack 0.
+    // Kept: the new form is no plainer: this and `relax_out` share the walk along a chain and `lower`; which edges count, their end, distance and hop differ.
+    fn relax_back(
+        &mut self,
+        network: &Network,
+        flow: &Flow,
+        back: &Chains,
+        source: usize,
+        u: usize,
+        count: usize,
+    )
+        requires lanes { Lanes network.now.nodes network.now.edges network.now.from network.now.to network.now.cost flow.now.mark }
+        requires chained { Chained network.now.nodes network.now.edges network.now.to back.now.head back.now.next }
+        requires growing { Growing network.now.nodes network.now.edges network.now.from network.now.to network.now.cost flow.now.load flow.now.mark source u 0 network.now.edges count self.old.dist self.old.via self.old.rank }
+        ensures growing_2 { Growing network.now.nodes network.now.edges network.now.from network.now.to network.now.cost flow.now.load flow.now.mark source u 0 0 count self.new.dist self.new.via self.old.rank }
+        ensures ranks { self.new.rank ≡ self.old.rank }
+    {
+        let here = self.dist[u];
+        let mut h = back.head[u];
+        while h > 0 {
+            let e = h - 1;
+            if flow.load[e] > 0 {
+                let v = network.from[e];
+                lower(v, here, 2 * e + 1, &mut self.dist, &mut self.via);
+            }
+            h = back.next[e];
+        }
+    }
+
+    // Looks at all edges of u, the node settled last.
+    fn relax(
+        &mut self,
+        network: &Network,
+        flow: &Flow,
+        out: &Chains,
+        back: &Chains,
+        source: usize,
+        u: usize,
+        count: usize,
+    )
+        requires lanes { Lanes network.now.nodes network.now.edges network.now.from network.now.to network.now.cost flow.now.mark }
+        requires chained { Chained network.now.nodes network.now.edges network.now.from out.now.head out.now.next }
+        requires chained_2 { Chained network.now.nodes network.now.edges network.now.to back.now.head back.now.next }
+        requires growing { Growing network.now.nodes network.now.edges network.now.from network.now.to network.now.cost flow.now.load flow.now.mark source u network.now.edges network.now.edges count self.old.dist self.old.via self.old.rank }
+        ensures growing_2 { Growing network.now.nodes network.now.edges network.now.from network.now.to network.now.cost flow.now.load flow.now.mark source u 0 0 count self.new.dist self.new.via self.old.rank }
+        ensures ranks { self.new.rank ≡ self.old.rank }
+    {
+        self.relax_out(network, flow, out, source, u, count);
+        self.relax_back(network, flow, back, source, u, count);
+    }
+
+    // The nearest node with a deficit, by the search of Dijkstra on slacks: the nearest node is settled, its edges are looked at, and so on.
+    fn find(
+        &mut self,
+        network: &Network,
+        flow: &Flow,
+        out: &Chains,
+        back: &Chains,
+        deficit: &[u64; NODES],
+        source: usize,
+    ) -> usize
+        requires seeking { Seeking network.now.nodes network.now.edges network.now.from network.now.to network.now.cost flow.now.mark deficit.now source }
+        requires chained { Chained network.now.nodes network.now.edges network.now.from out.now.head out.now.next }
+        requires chained_2 { Chained network.now.nodes network.now.edges network.now.to back.now.head back.now.next }
+        requires fresh { Fresh network.now.nodes self.old.dist self.old.via self.old.rank }
+        ensures { TargetFound network.now.nodes network.now.edges network.now.from network.now.to network.now.cost flow.now.load flow.now.mark deficit.now source result self.new.dist self.new.via self.new.rank }
+    {
+        self.dist[source] = 0;
+        self.rank[source] = 0;
+        let mut u = source;
+        let mut count = 1;
+        // Kept: the new form is no plainer: the search ends at a deficit, and `count` is the rank that it gives, which no range bounds.
+        while deficit[u] == 0 {
+            self.relax(network, flow, out, back, source, u, count);
+            u = self.nearest(network.nodes);
+            self.rank[u] = count;
+            count += 1;
+        }
+        u
+    }
 }
 
 // Raises each live node's mark by the lesser of its distance and the target's, `most`: no slack falls below 0, and the slacks along the way found
@@ -257,45 +218,36 @@ fn raise(
     requires { Raisable nodes live.now dist.now most mark.old }
     ensures { Raised nodes live.now dist.now most mark.old mark.new }
 {
-    let shift = lesser(dist[0], most);
-    let mut u: usize = 0;
-    while u < nodes {
+    let shift = dist[0].min(most);
+    for u in 0..nodes {
         if live[u] {
-            let more = lesser(dist[u], most);
-            mark[u] = mark[u] + more - shift;
+            mark[u] = mark[u] + dist[u].min(most) - shift;
         }
-        u += 1;
     }
 }
 
 // How much can be moved from the source to the target: no more than `limit`, nor than the load of any edge that is taken back.
 fn bottleneck(
-    nodes: usize,
-    edges: usize,
-    from: &[usize; EDGES],
-    to: &[usize; EDGES],
-    cost: &[u64; EDGES],
-    load: &[u64; EDGES],
-    mark: &[u64; NODES],
-    via: &[usize; NODES],
-    rank: &[usize; NODES],
+    network: &Network,
+    flow: &Flow,
+    search: &Search,
     source: usize,
     target: usize,
     limit: u64,
 ) -> u64
-    requires laid { Laid nodes edges from.now to.now cost.now load.now mark.now via.now rank.now source target }
+    requires laid { Laid network.now.nodes network.now.edges network.now.from network.now.to network.now.cost flow.now.load flow.now.mark search.now.via search.now.rank source target }
     requires le_limit { 1 ≤ limit }
-    ensures { Bottleneck edges from.now to.now cost.now load.now mark.now via.now rank.now source target limit result }
+    ensures { Bottleneck network.now.edges network.now.from network.now.to network.now.cost flow.now.load flow.now.mark search.now.via search.now.rank source target limit result }
 {
     let mut v = target;
     let mut most = limit;
     while v != source {
-        let e = via[v] / 2;
-        if via[v] % 2 == 0 {
-            v = from[e];
+        let e = search.via[v] / 2;
+        if search.via[v] % 2 == 0 {
+            v = network.from[e];
         } else {
-            most = lesser(most, load[e]);
-            v = to[e];
+            most = most.min(flow.load[e]);
+            v = network.to[e];
         }
     }
     most
@@ -303,250 +255,151 @@ fn bottleneck(
 
 // Moves the amount along the way found, from the target back to the source.
 fn push(
-    nodes: usize,
-    edges: usize,
-    from: &[usize; EDGES],
-    to: &[usize; EDGES],
-    cost: &[u64; EDGES],
-    mark: &[u64; NODES],
-    via: &[usize; NODES],
-    rank: &[usize; NODES],
+    network: &Network,
+    search: &Search,
     source: usize,
     target: usize,
     amount: u64,
-    load: &mut [u64; EDGES],
+    flow: &mut Flow,
 )
-    requires laid { Laid nodes edges from.now to.now cost.now load.old mark.now via.now rank.now source target }
-    requires pushing { Pushing nodes edges from.now to.now cost.now mark.now via.now rank.now source target amount load.old target load.old }
-    ensures { Pushing nodes edges from.now to.now cost.now mark.now via.now rank.now source target amount load.old source load.new }
+    requires laid { Laid network.now.nodes network.now.edges network.now.from network.now.to network.now.cost flow.old.load flow.old.mark search.now.via search.now.rank source target }
+    requires pushing { Pushing network.now.nodes network.now.edges network.now.from network.now.to network.now.cost flow.old.mark search.now.via search.now.rank source target amount flow.old.load target flow.old.load }
+    ensures pushed { Pushing network.now.nodes network.now.edges network.now.from network.now.to network.now.cost flow.old.mark search.now.via search.now.rank source target amount flow.old.load source flow.new.load }
+    ensures marks { flow.new.mark ≡ flow.old.mark }
 {
     let mut v = target;
     while v != source {
-        let e = via[v] / 2;
-        if via[v] % 2 == 0 {
-            load[e] = load[e] + amount;
-            v = from[e];
+        let e = search.via[v] / 2;
+        if search.via[v] % 2 == 0 {
+            flow.load[e] += amount;
+            v = network.from[e];
         } else {
-            load[e] = load[e] - amount;
-            v = to[e];
+            flow.load[e] -= amount;
+            v = network.to[e];
         }
     }
 }
 
 // One round: finds the nearest deficit, raises the marks so that the way there costs nothing more, and moves as much as has room along it.
 fn round(
-    nodes: usize,
-    edges: usize,
+    network: &Network,
     live: &[bool; NODES],
-    from: &[usize; EDGES],
-    to: &[usize; EDGES],
-    cost: &[u64; EDGES],
-    headout: &[usize; NODES],
-    nextout: &[usize; EDGES],
-    headin: &[usize; NODES],
-    nextin: &[usize; EDGES],
+    out: &Chains,
+    back: &Chains,
     source: usize,
-    load: &mut [u64; EDGES],
-    mark: &mut [u64; NODES],
-    surplus: &mut [u64; NODES],
-    deficit: &mut [u64; NODES],
+    flow: &mut Flow,
+    balance: &mut Balance,
 )
-    requires shape { Shape nodes edges live.now from.now to.now cost.now }
-    requires chained { Chained nodes edges from.now headout.now nextout.now }
-    requires chained_2 { Chained nodes edges to.now headin.now nextin.now }
-    requires carrying { Carrying nodes edges live.now from.now to.now cost.now load.old mark.old surplus.old deficit.old }
-    requires source_lt_nodes { (source < nodes) × (1 ≤ nth surplus.old source) }
-    ensures carrying_2 { Carrying nodes edges live.now from.now to.now cost.now load.new mark.new surplus.new deficit.new }
-    ensures carries { Carries nodes edges from.now to.now load.old surplus.old deficit.old load.new surplus.new deficit.new }
-    ensures others_kept { OthersKept source surplus.old surplus.new }
-    ensures source_bound { nth surplus.new source < nth surplus.old source }
+    requires shape { Shape network.now.nodes network.now.edges live.now network.now.from network.now.to network.now.cost }
+    requires chained { Chained network.now.nodes network.now.edges network.now.from out.now.head out.now.next }
+    requires chained_2 { Chained network.now.nodes network.now.edges network.now.to back.now.head back.now.next }
+    requires carrying { Carrying network.now.nodes network.now.edges live.now network.now.from network.now.to network.now.cost flow.old.load flow.old.mark balance.old.surplus balance.old.deficit }
+    requires source_lt_nodes { (source < network.now.nodes) × (1 ≤ nth balance.old.surplus source) }
+    ensures carrying_2 { Carrying network.now.nodes network.now.edges live.now network.now.from network.now.to network.now.cost flow.new.load flow.new.mark balance.new.surplus balance.new.deficit }
+    ensures carries { Carries network.now.nodes network.now.edges network.now.from network.now.to flow.old.load balance.old.surplus balance.old.deficit flow.new.load balance.new.surplus balance.new.deficit }
+    ensures others_kept { OthersKept source balance.old.surplus balance.new.surplus }
+    ensures source_bound { nth balance.new.surplus source < nth balance.old.surplus source }
 {
-    let mut dist = [FAR; NODES];
-    let mut via = [0usize; NODES];
-    let mut rank = [nodes; NODES];
-    let target = search(
-        nodes, edges, from, to, cost, load, mark, headout, nextout, headin, nextin, deficit,
-        source, &mut dist, &mut via, &mut rank,
-    );
-    let most = dist[target];
-    raise(nodes, live, &dist, most, mark);
-    let limit = lesser(surplus[source], deficit[target]);
-    let amount = bottleneck(
-        nodes, edges, from, to, cost, load, mark, &via, &rank, source, target, limit,
-    );
-    push(
-        nodes, edges, from, to, cost, mark, &via, &rank, source, target, amount, load,
-    );
-    surplus[source] = surplus[source] - amount;
-    deficit[target] = deficit[target] - amount;
+    let mut search = Search::new(network.nodes);
+    let target = search.find(network, flow, out, back, &balance.deficit, source);
+    let most = search.dist[target];
+    raise(network.nodes, live, &search.dist, most, &mut flow.mark);
+    let limit = balance.surplus[source].min(balance.deficit[target]);
+    let amount = bottleneck(network, flow, &search, source, target, limit);
+    push(network, &search, source, target, amount, flow);
+    balance.surplus[source] -= amount;
+    balance.deficit[target] -= amount;
 }
 
 // Moves all the surplus of one node.
 fn carry_from(
-    nodes: usize,
-    edges: usize,
+    network: &Network,
     live: &[bool; NODES],
-    from: &[usize; EDGES],
-    to: &[usize; EDGES],
-    cost: &[u64; EDGES],
-    headout: &[usize; NODES],
-    nextout: &[usize; EDGES],
-    headin: &[usize; NODES],
-    nextin: &[usize; EDGES],
+    out: &Chains,
+    back: &Chains,
     source: usize,
-    load: &mut [u64; EDGES],
-    mark: &mut [u64; NODES],
-    surplus: &mut [u64; NODES],
-    deficit: &mut [u64; NODES],
+    flow: &mut Flow,
+    balance: &mut Balance,
 )
-    requires shape { Shape nodes edges live.now from.now to.now cost.now }
-    requires chained { Chained nodes edges from.now headout.now nextout.now }
-    requires chained_2 { Chained nodes edges to.now headin.now nextin.now }
-    requires carrying { Carrying nodes edges live.now from.now to.now cost.now load.old mark.old surplus.old deficit.old }
-    requires source_lt_nodes { source < nodes }
-    ensures carrying_2 { Carrying nodes edges live.now from.now to.now cost.now load.new mark.new surplus.new deficit.new }
-    ensures carries { Carries nodes edges from.now to.now load.old surplus.old deficit.old load.new surplus.new deficit.new }
-    ensures others_kept { OthersKept source surplus.old surplus.new }
-    ensures source_after { nth surplus.new source ≡ 0 }
+    requires shape { Shape network.now.nodes network.now.edges live.now network.now.from network.now.to network.now.cost }
+    requires chained { Chained network.now.nodes network.now.edges network.now.from out.now.head out.now.next }
+    requires chained_2 { Chained network.now.nodes network.now.edges network.now.to back.now.head back.now.next }
+    requires carrying { Carrying network.now.nodes network.now.edges live.now network.now.from network.now.to network.now.cost flow.old.load flow.old.mark balance.old.surplus balance.old.deficit }
+    requires source_lt_nodes { source < network.now.nodes }
+    ensures carrying_2 { Carrying network.now.nodes network.now.edges live.now network.now.from network.now.to network.now.cost flow.new.load flow.new.mark balance.new.surplus balance.new.deficit }
+    ensures carries { Carries network.now.nodes network.now.edges network.now.from network.now.to flow.old.load balance.old.surplus balance.old.deficit flow.new.load balance.new.surplus balance.new.deficit }
+    ensures others_kept { OthersKept source balance.old.surplus balance.new.surplus }
+    ensures source_after { nth balance.new.surplus source ≡ 0 }
 {
-    while surplus[source] > 0 {
-        round(
-            nodes, edges, live, from, to, cost, headout, nextout, headin, nextin, source, load,
-            mark, surplus, deficit,
-        );
+    while balance.surplus[source] > 0 {
+        round(network, live, out, back, source, flow, balance);
     }
 }
 
 // Moves every surplus to the deficits, one node after the other, where nothing is moved yet.
 fn carry_slowly(
-    nodes: usize,
-    edges: usize,
+    network: &Network,
     live: &[bool; NODES],
-    from: &[usize; EDGES],
-    to: &[usize; EDGES],
-    cost: &[u64; EDGES],
-    headout: &[usize; NODES],
-    nextout: &[usize; EDGES],
-    headin: &[usize; NODES],
-    nextin: &[usize; EDGES],
-    load: &mut [u64; EDGES],
-    mark: &mut [u64; NODES],
-    surplus: &mut [u64; NODES],
-    deficit: &mut [u64; NODES],
+    out: &Chains,
+    back: &Chains,
+    flow: &mut Flow,
+    balance: &mut Balance,
 )
-    requires shape { Shape nodes edges live.now from.now to.now cost.now }
-    requires chained { Chained nodes edges from.now headout.now nextout.now }
-    requires chained_2 { Chained nodes edges to.now headin.now nextin.now }
-    requires waiting { Waiting nodes edges live.now load.old mark.old surplus.old deficit.old }
-    ensures by_index { (given wanted : ℕ → ℕ) → ((u : ℕ) → u < nodes → nth surplus.old u + wanted u ≡ nth deficit.old u + given u) → Carried nodes edges live.now from.now to.now cost.now load.new mark.new given wanted (sum_to nodes (λ u. nth surplus.old u)) }
-    ensures load_len { (length load.new ≡ most_edges) × (length mark.new ≡ most_nodes) }
+    requires shape { Shape network.now.nodes network.now.edges live.now network.now.from network.now.to network.now.cost }
+    requires chained { Chained network.now.nodes network.now.edges network.now.from out.now.head out.now.next }
+    requires chained_2 { Chained network.now.nodes network.now.edges network.now.to back.now.head back.now.next }
+    requires waiting { Waiting network.now.nodes network.now.edges live.now flow.old.load flow.old.mark balance.old.surplus balance.old.deficit }
+    ensures by_index { (given wanted : ℕ → ℕ) → ((u : ℕ) → u < network.now.nodes → nth balance.old.surplus u + wanted u ≡ nth balance.old.deficit u + given u) → Carried network.now.nodes network.now.edges live.now network.now.from network.now.to network.now.cost flow.new.load flow.new.mark given wanted (sum_to network.now.nodes (λ u. nth balance.old.surplus u)) }
+    ensures load_len { (length flow.new.load ≡ most_edges) × (length flow.new.mark ≡ most_nodes) }
 {
-    let mut u: usize = 0;
-    while u < nodes {
-        carry_from(
-            nodes, edges, live, from, to, cost, headout, nextout, headin, nextin, u, load, mark,
-            surplus, deficit,
-        );
-        u += 1;
+    for u in 0..network.nodes {
+        carry_from(network, live, out, back, u, flow, balance);
     }
 }
 
-// Takes every load off.
-fn empty(edges: usize, load: &mut [u64; EDGES])
-    requires { (edges ≤ most_edges) × (length load.old ≡ most_edges) }
-    ensures { Emptied edges load.new }
+// Nothing is moved, as it was before the guess: no load, and every mark at the base.
+fn set_back(network: &Network, flow: &mut Flow)
+    requires { (network.now.nodes ≤ most_nodes) × (network.now.edges ≤ most_edges) }
+    ensures { Emptied network.now.edges flow.new.load × Levelled network.now.nodes flow.new.mark }
 {
-    let mut e: usize = 0;
-    while e < edges {
-        load[e] = 0;
-        e += 1;
-    }
-}
-
-// Sets every mark to the base.
-fn level(nodes: usize, mark: &mut [u64; NODES])
-    requires { (nodes ≤ most_nodes) × (length mark.old ≡ most_nodes) }
-    ensures { Levelled nodes mark.new }
-{
-    let mut u: usize = 0;
-    while u < nodes {
-        mark[u] = BASE;
-        u += 1;
-    }
-}
-
-// Nothing is moved, as it was before the guess.
-fn set_back(nodes: usize, edges: usize, load: &mut [u64; EDGES], mark: &mut [u64; NODES])
-    requires nodes_le_most_nodes { (nodes ≤ most_nodes) × (edges ≤ most_edges) }
-    requires per_edge { PerEdge load.old × PerNode mark.old }
-    ensures { Emptied edges load.new × Levelled nodes mark.new }
-{
-    empty(edges, load);
-    level(nodes, mark);
+    flow.load[..network.edges].fill(0);
+    flow.mark[..network.nodes].fill(BASE);
 }
 
 // Guesses loads and marks, and tells whether they stand the test.
 fn guess_stands(
-    nodes: usize,
-    edges: usize,
+    network: &Network,
     fuel: usize,
-    from: &[usize; EDGES],
-    to: &[usize; EDGES],
-    cost: &[u64; EDGES],
-    head: &[usize; NODES],
-    next: &[usize; EDGES],
-    surplus: &[u64; NODES],
-    deficit: &[u64; NODES],
-    load: &mut [u64; EDGES],
-    mark: &mut [u64; NODES],
+    chains: &Chains,
+    balance: &Balance,
+    flow: &mut Flow,
 ) -> bool
-    requires ends { Ends nodes edges from.now to.now × Movable nodes surplus.now deficit.now }
-    requires per_edge { PerEdge load.old × PerNode mark.old }
-    ensures stands { result ≡ true → Stands nodes edges from.now to.now cost.now load.new mark.new surplus.now deficit.now }
-    ensures per_edge_2 { PerEdge load.new × PerNode mark.new }
+    requires { Ends network.now.nodes network.now.edges network.now.from network.now.to × Movable network.now.nodes balance.now.surplus balance.now.deficit }
+    ensures stands { result ≡ true → Stands network.now.nodes network.now.edges network.now.from network.now.to network.now.cost flow.new.load flow.new.mark balance.now.surplus balance.now.deficit }
+    ensures lengths { PerEdge flow.new.load × PerNode flow.new.mark }
 {
-    if guess(
-        nodes, edges, fuel, from, to, cost, head, next, surplus, deficit, load, mark,
-    ) {
-        return stands(nodes, edges, from, to, cost, load, mark, surplus, deficit);
-    }
-    false
+    guess(network, fuel, chains, balance, flow) && stands(network, flow, balance)
 }
 
 // Moves every surplus to the deficits, at the lowest cost: no slack is below 0, and every edge that carries a load has slack 0. A guess of no more than `fuel`
 // steps is taken where it stands the test; else its loads and marks are set back, and everything is carried slowly.
 pub fn carry_all(
-    nodes: usize,
-    edges: usize,
+    network: &Network,
     fuel: usize,
     live: &[bool; NODES],
-    from: &[usize; EDGES],
-    to: &[usize; EDGES],
-    cost: &[u64; EDGES],
-    load: &mut [u64; EDGES],
-    mark: &mut [u64; NODES],
-    surplus: &mut [u64; NODES],
-    deficit: &mut [u64; NODES],
+    flow: &mut Flow,
+    balance: &mut Balance,
 )
-    requires shape { Shape nodes edges live.now from.now to.now cost.now }
-    requires waiting { Waiting nodes edges live.now load.old mark.old surplus.old deficit.old }
-    ensures by_index { (given wanted : ℕ → ℕ) → ((u : ℕ) → u < nodes → nth surplus.old u + wanted u ≡ nth deficit.old u + given u) → Carried nodes edges live.now from.now to.now cost.now load.new mark.new given wanted (sum_to nodes (λ u. nth surplus.old u)) }
-    ensures load_len { (length load.new ≡ most_edges) × (length mark.new ≡ most_nodes) }
+    requires shape { Shape network.now.nodes network.now.edges live.now network.now.from network.now.to network.now.cost }
+    requires waiting { Waiting network.now.nodes network.now.edges live.now flow.old.load flow.old.mark balance.old.surplus balance.old.deficit }
+    ensures by_index { (given wanted : ℕ → ℕ) → ((u : ℕ) → u < network.now.nodes → nth balance.old.surplus u + wanted u ≡ nth balance.old.deficit u + given u) → Carried network.now.nodes network.now.edges live.now network.now.from network.now.to network.now.cost flow.new.load flow.new.mark given wanted (sum_to network.now.nodes (λ u. nth balance.old.surplus u)) }
+    ensures load_len { (length flow.new.load ≡ most_edges) × (length flow.new.mark ≡ most_nodes) }
 {
-    let mut headout = [0usize; NODES];
-    let mut nextout = [0usize; EDGES];
-    chain(nodes, edges, from, &mut headout, &mut nextout);
-    if guess_stands(
-        nodes, edges, fuel, from, to, cost, &headout, &nextout, surplus, deficit, load, mark,
-    ) {
+    let out = chain(network.nodes, network.edges, &network.from);
+    if guess_stands(network, fuel, &out, balance, flow) {
         return;
     }
-    set_back(nodes, edges, load, mark);
-    let mut headin = [0usize; NODES];
-    let mut nextin = [0usize; EDGES];
-    chain(nodes, edges, to, &mut headin, &mut nextin);
-    carry_slowly(
-        nodes, edges, live, from, to, cost, &headout, &nextout, &headin, &nextin, load, mark,
-        surplus, deficit,
-    );
+    set_back(network, flow);
+    let back = chain(network.nodes, network.edges, &network.to);
+    carry_slowly(network, live, &out, &back, flow, balance);
 }

@@ -2,7 +2,7 @@
 ghost use Rattle.std.specs.Prelude.{◌≡◌, true};
 ghost use Rattle.network.specs.Network.{nth, sum_to, Ends, EdgeStands, EdgesStand, Summable, Tallied, Comparable, Even, Movable, LoadsStand, Stands};
 
-use crate::{BASE, EDGES, MOST_MOVED, NODES};
+use crate::{BASE, Balance, EDGES, Flow, MOST_MOVED, NODES, Network};
 
 // Whether an edge's slack is at least 0, and 0 under a load, and no more than can be there lies on it.
 fn edge_stands(cost: u64, back: u64, ahead: u64, load: u64) -> bool
@@ -24,131 +24,80 @@ fn edge_stands(cost: u64, back: u64, ahead: u64, load: u64) -> bool
 }
 
 // Whether every edge is as it has to be.
-fn edges_stand(
-    nodes: usize,
-    edges: usize,
-    from: &[usize; EDGES],
-    to: &[usize; EDGES],
-    cost: &[u64; EDGES],
-    load: &[u64; EDGES],
-    mark: &[u64; NODES],
-) -> bool
-    requires { Ends nodes edges from.now to.now }
-    ensures { result ≡ true → EdgesStand edges from.now to.now cost.now load.now mark.now }
+fn edges_stand(network: &Network, flow: &Flow) -> bool
+    requires { Ends network.now.nodes network.now.edges network.now.from network.now.to }
+    ensures { result ≡ true → EdgesStand network.now.edges network.now.from network.now.to network.now.cost flow.now.load flow.now.mark }
 {
-    let mut e: usize = 0;
-    while e < edges {
-        let back = mark[from[e]];
-        let ahead = mark[to[e]];
-        if !edge_stands(cost[e], back, ahead, load[e]) {
+    for e in 0..network.edges {
+        let back = flow.mark[network.from[e]];
+        let ahead = flow.mark[network.to[e]];
+        if !edge_stands(network.cost[e], back, ahead, flow.load[e]) {
             return false;
         }
-        e += 1;
     }
     true
 }
 
-// Sums what enters and what leaves each node, in sums that are 0 before.
+// Sums what enters and what leaves each node on so many edges, in sums that are 0 before.
 pub fn tally(
-    nodes: usize,
+    network: &Network,
     edges: usize,
-    from: &[usize; EDGES],
-    to: &[usize; EDGES],
     load: &[u64; EDGES],
     into: &mut [u64; NODES],
     out: &mut [u64; NODES],
 )
-    requires summable { Summable nodes edges from.now to.now load.now }
-    requires tallied { Tallied nodes 0 from.now to.now load.now into.old out.old }
-    ensures { Tallied nodes edges from.now to.now load.now into.new out.new }
+    requires summable { Summable network.now.nodes edges network.now.from network.now.to load.now }
+    requires tallied { Tallied network.now.nodes 0 network.now.from network.now.to load.now into.old out.old }
+    ensures { Tallied network.now.nodes edges network.now.from network.now.to load.now into.new out.new }
 {
-    let mut e = 0;
-    while e < edges {
-        let u = from[e];
-        let v = to[e];
-        into[v] = into[v] + load[e];
-        out[u] = out[u] + load[e];
-        e += 1;
+    for e in 0..edges {
+        let u = network.from[e];
+        let v = network.to[e];
+        into[v] += load[e];
+        out[u] += load[e];
     }
 }
 
 // Whether every node gives off its surplus and gets its deficit.
-fn nodes_stand(
-    nodes: usize,
-    into: &[u64; NODES],
-    out: &[u64; NODES],
-    surplus: &[u64; NODES],
-    deficit: &[u64; NODES],
-) -> bool
-    requires { Comparable nodes into.now out.now surplus.now deficit.now }
-    ensures { result ≡ true → Even nodes into.now out.now surplus.now deficit.now }
+fn nodes_stand(nodes: usize, into: &[u64; NODES], out: &[u64; NODES], balance: &Balance) -> bool
+    requires { Comparable nodes into.now out.now balance.now.surplus balance.now.deficit }
+    ensures { result ≡ true → Even nodes into.now out.now balance.now.surplus balance.now.deficit }
 {
-    let mut u: usize = 0;
-    while u < nodes {
-        if out[u] + deficit[u] != into[u] + surplus[u] {
+    for u in 0..nodes {
+        if out[u] + balance.deficit[u] != into[u] + balance.surplus[u] {
             return false;
         }
-        u += 1;
     }
     true
 }
 
 // All that there is to move.
-fn total(nodes: usize, surplus: &[u64; NODES], deficit: &[u64; NODES]) -> u64
-    requires { Movable nodes surplus.now deficit.now }
-    ensures { result ≡ sum_to nodes (λ u. nth surplus.now u) }
+fn total(nodes: usize, balance: &Balance) -> u64
+    requires { Movable nodes balance.now.surplus balance.now.deficit }
+    ensures { result ≡ sum_to nodes (λ u. nth balance.now.surplus u) }
 {
-    let mut sum: u64 = 0;
-    let mut u: usize = 0;
-    while u < nodes {
-        sum = sum + surplus[u];
-        u += 1;
+    let mut sum = 0;
+    for u in 0..nodes {
+        sum += balance.surplus[u];
     }
     sum
 }
 
 // Whether the loads balance every node, and the root sends no more than there is to move.
-fn loads_stand(
-    nodes: usize,
-    edges: usize,
-    from: &[usize; EDGES],
-    to: &[usize; EDGES],
-    load: &[u64; EDGES],
-    surplus: &[u64; NODES],
-    deficit: &[u64; NODES],
-) -> bool
-    requires { Summable nodes edges from.now to.now load.now × Movable nodes surplus.now deficit.now }
-    ensures { result ≡ true → LoadsStand nodes edges from.now to.now load.now surplus.now deficit.now }
+fn loads_stand(network: &Network, load: &[u64; EDGES], balance: &Balance) -> bool
+    requires { Summable network.now.nodes network.now.edges network.now.from network.now.to load.now × Movable network.now.nodes balance.now.surplus balance.now.deficit }
+    ensures { result ≡ true → LoadsStand network.now.nodes network.now.edges network.now.from network.now.to load.now balance.now.surplus balance.now.deficit }
 {
     let mut into = [0u64; NODES];
     let mut out = [0u64; NODES];
-    tally(nodes, edges, from, to, load, &mut into, &mut out);
-    if out[0] > total(nodes, surplus, deficit) {
-        return false;
-    }
-    nodes_stand(nodes, &into, &out, surplus, deficit)
+    tally(network, network.edges, load, &mut into, &mut out);
+    out[0] <= total(network.nodes, balance) && nodes_stand(network.nodes, &into, &out, balance)
 }
 
 // Whether the loads and marks need no further search.
-pub fn stands(
-    nodes: usize,
-    edges: usize,
-    from: &[usize; EDGES],
-    to: &[usize; EDGES],
-    cost: &[u64; EDGES],
-    load: &[u64; EDGES],
-    mark: &[u64; NODES],
-    surplus: &[u64; NODES],
-    deficit: &[u64; NODES],
-) -> bool
-    requires { Ends nodes edges from.now to.now × Movable nodes surplus.now deficit.now }
-    ensures { result ≡ true → Stands nodes edges from.now to.now cost.now load.now mark.now surplus.now deficit.now }
+pub fn stands(network: &Network, flow: &Flow, balance: &Balance) -> bool
+    requires { Ends network.now.nodes network.now.edges network.now.from network.now.to × Movable network.now.nodes balance.now.surplus balance.now.deficit }
+    ensures { result ≡ true → Stands network.now.nodes network.now.edges network.now.from network.now.to network.now.cost flow.now.load flow.now.mark balance.now.surplus balance.now.deficit }
 {
-    if mark[0] != BASE {
-        return false;
-    }
-    if edges_stand(nodes, edges, from, to, cost, load, mark) {
-        return loads_stand(nodes, edges, from, to, load, surplus, deficit);
-    }
-    false
+    flow.mark[0] == BASE && edges_stand(network, flow) && loads_stand(network, &flow.load, balance)
 }

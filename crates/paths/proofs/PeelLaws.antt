@@ -1,20 +1,14 @@
 -- Laws of taking loads off a bare network, over plain lists: looking for a loaded edge, walking from the root back to it, and what the loads are worth
 -- after a walk is taken off.
-use Prim.Native.Nat.{ℕ, zero, suc, ◌+◌, ◌*◌, ◌-◌, ◌≤◌, ◌<◌}
-use native.Mathlib.Omega.{arith}
-use native.Mathlib.Nat.{mul-add, add-mul, mul-zero, mul-one}
-use native.Mathlib.Numerals.{add-one}
-use mathlib.Core.Path.{◌≡◌, refl, sym, ap, subst, ◌∙◌}
-use mathlib.Core.List.{List, [], ◌∷◌, ◌++◌}
-use mathlib.Core.Logic.{◌⊎◌, inl, inr, ⊎_elim, ◌≢◌}
-use lib.ListN.{length, set, take, drop, length-set}
-use lib.Seq.{get_or-set_same, get_or-set_other, take-take, get_or-take, split_at, append_snoc, take-suc, take-suc-set, length-take-le}
+use Rattle.std.proofs.Common.{ℕ, suc, ◌+◌, ◌*◌, ◌-◌, ◌≤◌, ◌<◌, min, arith, mul-add, add-mul, mul-zero, mul-one, add-one, ◌≡◌, refl, sym, ap, subst, ◌∙◌, List, [], ◌∷◌, ◌++◌, ◌⊎◌, inl, inr, ⊎_elim, ◌≢◌, length, set, take, drop, length-set, get_or-set_same, get_or-set_other, take-suc, take-suc-set}
+use Rattle.std.proofs.Math.Seq.{split_at, append_snoc}
 use Rattle.mathematics.specs.Lists.{All}
 use Rattle.mathematics.specs.Range.{OneOf}
 use Rattle.mathematics.proofs.Basics.{all_append, all_weaken, all_right, among_left, among_right}
 use Rattle.mathematics.proofs.Loads.{sum_over, sum_over_append}
 use Rattle.network.specs.Network.{nth, sum_to, share, leaving, entering, Chained, most_nodes, most_edges}
-use Rattle.paths.specs.Peel.{worth_to, Circles, NextLoaded, Winds, Walked, TakenOff}
+use Rattle.std.specs.Prelude.{Option, None, Some, IsSome}
+use Rattle.paths.specs.Peel.{worth_to, Circles, plus_one, NextLoaded, Winds, Walked, TakenOff}
 use Rattle.network.proofs.NetworkLaws.{same_or_not, below_or_not, sum_change, sum_none, sum_term, share_same, share_other}
 
 -- the search down the chain of u has come to h: no edge of u from h on is loaded
@@ -50,21 +44,17 @@ module _ (N E : ℕ) (from head next load : List ℕ) (u : ℕ) (chained : Chain
       later e b k n (inl q) = ap (nth load) q ∙ omega arith
       later e b k n (inr q) = L.passed e b k (omega arith)
 
-  pub look_found : (h : ℕ) → Looking E from load u h → 1 ≤ h → 1 ≤ nth load (h - 1) → NextLoaded E from load u h
+  pub look_found : (h : ℕ) → Looking E from load u h → 1 ≤ h → 1 ≤ nth load (h - 1) → NextLoaded E from load u (h - 1 + 1)
   look_found h L p l =
       record {
         none = λ z. absurd (omega arith);
         some = λ e q. let i : h - 1 ≡ e = omega arith in
-            (omega (arith, L.below), L.key e q, subst (λ (k : ℕ). 1 ≤ nth load k) i l);
+            (omega (arith, L.below), L.key e (omega arith), subst (λ (k : ℕ). 1 ≤ nth load k) i l);
       }
 
-  pub look_none : (h : ℕ) → Looking E from load u h → h ≤ 0 → NextLoaded E from load u h
+  pub look_none : (h : ℕ) → Looking E from load u h → h ≤ 0 → NextLoaded E from load u 0
   look_none h L z =
       record { none = λ q e b k. L.passed e b k (omega arith); some = λ e q. absurd (omega arith) }
-
--- the loaded edge that was found
-pub next_edge : (E : ℕ) (from load : List ℕ) (u r : ℕ) → NextLoaded E from load u r → 1 ≤ r → NextLoaded E from load u (r - 1 + 1)
-next_edge E from load u r n p = let e : r ≡ r - 1 + 1 = omega arith in subst (NextLoaded E from load u) e n
 
 -- a sum of which one part is k less
 sum_one_less : (E : ℕ) (f g : ℕ → ℕ) (e k : ℕ) → e < E → f e ≡ g e + k → ((j : ℕ) → j ≢ e → f j ≡ g j) → sum_to E f ≡ sum_to E g + k
@@ -144,29 +134,25 @@ module _ (from to : List ℕ) where
       omega (arith, winds_once (nth to d) ds e es w, share_other e d 1 (λ q. let s = ap (nth from) q in omega arith))
 
 -- the edge at a place of a walk
-module _ (E : ℕ) (from to load way : List ℕ) (len amount k : ℕ) (long : length way ≡ most_nodes) (w : Walked E from to load way len amount) (inside : k < len) where
-  parted : take len way ≡ take k way ++ (nth way k ∷ drop (suc k) (take len way))
-  parted =
-      let b : k < length (take len way) = omega (arith, length-take-le len way (omega (arith, w.fits))) in
-      subst (λ (ds : List ℕ). take len way ≡ ds ++ (nth way k ∷ drop (suc k) (take len way))) (take-take k len way (omega arith))
-      (subst (λ (e : ℕ). take len way ≡ take k (take len way) ++ (e ∷ drop (suc k) (take len way))) (get_or-take len way k 0 inside)
-      (split_at (take len way) k 0 b))
+module _ (E : ℕ) (from to load ws : List ℕ) (amount k : ℕ) (w : Walked E from to load ws amount) (inside : k < length ws) where
+  parted : ws ≡ take k ws ++ (nth ws k ∷ drop (suc k) ws)
+  parted = split_at ws k 0 inside
 
-  pub walk_carries : (nth way k < E) × (amount ≤ nth load (nth way k))
-  walk_carries = (all_right _ (take k way) _ (subst (All (λ e. (e < E) × (amount ≤ nth load e))) parted w.carries)).0
+  pub walk_carries : (nth ws k < E) × (amount ≤ nth load (nth ws k))
+  walk_carries = (all_right _ (take k ws) _ (subst (All (λ e. (e < E) × (amount ≤ nth load e))) parted w.carries)).0
 
   -- an edge of the walk that is not reached yet still has its load
-  pub walk_fits : (now : List ℕ) → TakenOff E load (take k way) amount now → amount ≤ nth now (nth way k)
+  pub walk_fits : (now : List ℕ) → TakenOff E load (take k ws) amount now → amount ≤ nth now (nth ws k)
   walk_fits now t =
-      let z = winds_once from to 0 (take k way) (nth way k) _ (subst (Winds from to 0) parted w.winds) in
-      omega (arith, walk_carries, taken_at E load (take k way) amount now t (nth way k) walk_carries.0, ap (λ (n : ℕ). amount * n) z ∙ mul-zero amount)
+      let z = winds_once from to 0 (take k ws) (nth ws k) _ (subst (Winds from to 0) parted w.winds) in
+      omega (arith, walk_carries, taken_at E load (take k ws) amount now t (nth ws k) walk_carries.0, ap (λ (n : ℕ). amount * n) z ∙ mul-zero amount)
 
-  pub walk_turn : (now : List ℕ) → E ≤ most_edges → TakenOff E load (take k way) amount now →
-      TakenOff E load (take (k + 1) way) amount (set now (nth way k) (nth now (nth way k) - amount))
+  pub walk_turn : (now : List ℕ) → E ≤ most_edges → TakenOff E load (take k ws) amount now →
+      TakenOff E load (take (k + 1) ws) amount (set now (nth ws k) (nth now (nth ws k) - amount))
   walk_turn now small t =
-      subst (λ (ws : List ℕ). TakenOff E load ws amount (set now (nth way k) (nth now (nth way k) - amount)))
-      (sym (take-suc way k 0 (omega (arith, w.fits))) ∙ ap (λ (n : ℕ). take n way) (sym (add-one k)))
-      (taken_more E load (take k way) amount now (nth way k) t small walk_carries.0 (walk_fits now t))
+      subst (λ (ds : List ℕ). TakenOff E load ds amount (set now (nth ws k) (nth now (nth ws k) - amount)))
+      (sym (take-suc ws k 0 inside) ∙ ap (λ (n : ℕ). take n ws) (sym (add-one k)))
+      (taken_more E load (take k ws) amount now (nth ws k) t small walk_carries.0 (walk_fits now t))
 
 -- a walk under way: along the edges ws, len of them, it has come to the node u, which is the root where the walk is at its end
 pub record Going (N E : ℕ) (from to load ws : List ℕ) (len amount u : ℕ) : Type 0 where
@@ -182,11 +168,11 @@ pub record Going (N E : ℕ) (from to load ws : List ℕ) (len amount u : ℕ) :
 
 module _ (N E : ℕ) (from to load : List ℕ) (C : Circles N E from to load) where
   -- what comes into a node goes out
-  pub way_on : (u e r : ℕ) → u < N → e < E → nth to e ≡ u → 1 ≤ nth load e → NextLoaded E from load u r → 1 ≤ r
+  pub way_on : (u e : ℕ) (r : Option ℕ) → u < N → e < E → nth to e ≡ u → 1 ≤ nth load e → NextLoaded E from load u (plus_one r) → IsSome r
   unfolding leaving entering
-  way_on u e zero b h t l n =
+  way_on u e None b h t l n =
       absurd (omega (arith, C.balance u b, shares_nothing E from load u (n.none refl), shares_part E to load u e h t))
-  way_on u e (suc r) b h t l n = omega arith
+  way_on u e (Some r) b h t l n = refl
 
   going_first : (e : ℕ) → NextLoaded E from load 0 (e + 1) → Going N E from to load (e ∷ []) 1 (nth load e) (nth to e)
   going_first e n =
@@ -204,9 +190,10 @@ module _ (N E : ℕ) (from to load : List ℕ) (C : Circles N E from to load) wh
       }
 
   going_more : (ws : List ℕ) (len amount u e less : ℕ) → Going N E from to load ws len amount u → 1 ≤ u → NextLoaded E from load u (e + 1) →
-      less ≤ amount → less ≤ nth load e → (less ≡ amount) ⊎ (less ≡ nth load e) → Going N E from to load (ws ++ (e ∷ [])) (len + 1) less (nth to e)
-  going_more ws len amount u e less G p n x y o =
+      less ≡ min amount (nth load e) → Going N E from to load (ws ++ (e ∷ [])) (len + 1) less (nth to e)
+  going_more ws len amount u e less G p n x =
       let (b, f, l) = n.some e refl in
+      let o = below_or_not amount (nth load e) in
       record {
         node = C.to_node e b l;
         low = omega (arith, G.lower p, G.node);
@@ -215,11 +202,11 @@ module _ (N E : ℕ) (from to load : List ℕ) (C : Circles N E from to load) wh
             (G.come p (e ∷ es) (f, inr (⊎_elim (λ h. absurd (omega arith)) (λ h. omega arith) (C.rises e b l), w)));
         home = λ z. G.come p (e ∷ []) (f, inl (z, refl));
         entered = λ q. (e, b, refl, l);
-        carries = all_append _ ws (e ∷ []) (all_weaken _ _ ws (λ j h. (h.0, omega arith)) G.carries) ((b, y), tt);
-        some = ⊎_elim (λ q. omega (arith, G.some)) (λ q. omega arith) o;
+        carries = all_append _ ws (e ∷ []) (all_weaken _ _ ws (λ j h. (h.0, omega arith)) G.carries) ((b, omega arith), tt);
+        some = omega (arith, G.some);
         empties = ⊎_elim
-            (λ q. let (j, m, k) = G.empties in (j, among_left j ws (e ∷ []) m, k ∙ sym q))
-            (λ q. (e, among_right e ws (e ∷ []) (inl refl), sym q)) o;
+            (λ q. let (j, m, k) = G.empties in (j, among_left j ws (e ∷ []) m, omega arith))
+            (λ q. (e, among_right e ws (e ∷ []) (inl refl), omega arith)) o;
       }
 
   pub going_start : (way : List ℕ) (e : ℕ) → length way ≡ most_nodes → NextLoaded E from load 0 (e + 1) →
@@ -228,13 +215,13 @@ module _ (N E : ℕ) (from to load : List ℕ) (C : Circles N E from to load) wh
       subst (λ (ws : List ℕ). Going N E from to load ws 1 (nth load e) (nth to e)) (sym (take-suc-set way 0 e (omega arith))) (going_first e n)
 
   pub going_turn : (way : List ℕ) (len amount u e less : ℕ) → length way ≡ most_nodes → len < most_nodes → Going N E from to load (take len way) len amount u → 1 ≤ u →
-      NextLoaded E from load u (e + 1) → less ≤ amount → less ≤ nth load e → (less ≡ amount) ⊎ (less ≡ nth load e) →
+      NextLoaded E from load u (e + 1) → less ≡ min amount (nth load e) →
       Going N E from to load (take (len + 1) (set way len e)) (len + 1) less (nth to e)
-  going_turn way len amount u e less long room G p n x y o =
+  going_turn way len amount u e less long room G p n x =
       subst (λ (ws : List ℕ). Going N E from to load ws (len + 1) less (nth to e))
       (sym (take-suc-set way len e (omega arith)) ∙ ap (λ (k : ℕ). take k (set way len e)) (sym (add-one len)))
-      (going_more (take len way) len amount u e less G p n x y o)
+      (going_more (take len way) len amount u e less G p n x)
 
-  pub going_home : (way : List ℕ) (len amount u : ℕ) → N ≤ most_nodes → Going N E from to load (take len way) len amount u → u ≤ 0 → Walked E from to load way len amount
-  going_home way len amount u few G z =
-      record { fits = omega (arith, G.low); winds = G.home (omega arith); carries = G.carries; some = G.some; empties = G.empties }
+  pub going_home : (ws : List ℕ) (len amount u : ℕ) → Going N E from to load ws len amount u → u ≤ 0 → Walked E from to load ws amount
+  going_home ws len amount u G z =
+      record { winds = G.home (omega arith); carries = G.carries; some = G.some; empties = G.empties }

@@ -1,14 +1,6 @@
 -- Taking walks off until nothing is left: each walk keeps what Peeling says, and once the root sends nothing no edge carries anything, so the
 -- collected paths carry all loads.
-use Prim.Native.Nat.{ℕ, zero, suc, ◌+◌, ◌*◌, ◌≤◌, ◌<◌, min}
-use native.Mathlib.Omega.{arith}
-use native.Mathlib.Nat.{add-mul, mul-one, mul-zero, zero-mul, mul-suc}
-use native.Mathlib.Numerals.{add-one}
-use mathlib.Core.Path.{◌≡◌, refl, sym, ap, subst, ◌∙◌}
-use mathlib.Core.List.{List, [], ◌∷◌, ◌++◌, map}
-use mathlib.Core.Logic.{◌⊎◌, inl, inr, ⊎_elim}
-use lib.Dec.{T}
-use lib.ListN.{length, get_or}
+use Rattle.std.proofs.Common.{ℕ, zero, suc, ◌+◌, ◌*◌, ◌≤◌, ◌<◌, min, arith, add-mul, mul-one, mul-zero, zero-mul, mul-suc, add-one, ◌≡◌, refl, sym, ap, subst, ◌∙◌, List, [], ◌∷◌, ◌++◌, map, ◌⊎◌, inl, inr, ⊎_elim, T, length, get_or}
 use Rattle.mathematics.specs.Lists.{All, holds, some_holds}
 use Rattle.mathematics.specs.Cover.{Item, Weighted, through, total, total_weight, paths}
 use Rattle.mathematics.specs.Range.{OneOf}
@@ -23,8 +15,9 @@ use Rattle.forms.specs.GraphReads.{Reads}
 use Rattle.forms.specs.AnswerFaults.{list_before}
 use Rattle.forms.proofs.GraphFacts.{length_tabulate, graph_well_formed}
 use Rattle.network.specs.Network.{nth, sum_to, share, leaving, entering, most_edges, most_moved}
+use Rattle.paths.specs.declared.collect.Paths.{Paths}
 use Rattle.paths.specs.Slots.{prepared_of, all_slots, opening_slot, closing_slot, reading_slot, link_at}
-use Rattle.paths.specs.Peel.{collected_at, collected, Ascend, PathTable, Inserted, fresh, added, GoesRound, worth_to, worth_of, Circles, NextLoaded, Winds, Peeled, loaded_in, opens_at, PeeledOne, Peeling}
+use Rattle.paths.specs.Peel.{path_at, collected_at, collected, Ascend, PathTable, Inserted, fresh, added, GoesRound, worth_to, worth_of, Circles, Winds, Peeled, loaded_in, opens_at, PeeledOne, Peeling}
 use Rattle.network.proofs.NetworkLaws.{same_or_not, below_or_not, sum_same, sum_none, sum_term, share_other}
 use Rattle.paths.proofs.PeelLaws.{share_here, only, taken_at, shares_nothing, shares_part}
 use Rattle.paths.proofs.SlotKinds.{at_reading}
@@ -147,8 +140,8 @@ times_more : (a n : ℕ) → 1 ≤ n → a ≤ a * n
 times_more a zero h = absurd (omega arith)
 times_more a (suc n) h = rw (mul-suc a n) (omega arith)
 
-module _ (s : List ℕ) (reads : Reads s) (from to first load : List ℕ) (W : List Weighted) (count : ℕ) (peeling : Peeling s from to first load W count)
-    (after : List ℕ) (rows : List (List ℕ)) (lens weights : List ℕ) (r : ℕ) (one : PeeledOne s from to load after W count rows lens weights r) where
+module _ (s : List ℕ) (reads : Reads s) (from to first load : List ℕ) (before : Paths) (peeling : Peeling s from to first load before)
+    (after : List ℕ) (table : Paths) (one : PeeledOne s from to load after before table) where
   abbrev links : List Link
   links = map (link_at s) one.ws
 
@@ -212,33 +205,33 @@ module _ (s : List ℕ) (reads : Reads s) (from to first load : List ℕ) (W : L
 
   -- a read is still to be placed, or some path holds it
   still_held : (k : ℕ) → k < length (prepared_of s) →
-      (1 ≤ nth after (reading_slot s k)) ⊎ T (some_holds (paths (collected rows lens weights r)) (get_or (prepared_of s) k []))
-  still_held k b = ⊎_elim loaded (λ t. inr (inserted_held step W _ (get_or (prepared_of s) k []) one.kept.inserted t)) (peeling.held k b)
+      (1 ≤ nth after (reading_slot s k)) ⊎ T (some_holds (paths (collected table)) (get_or (prepared_of s) k []))
+  still_held k b = ⊎_elim loaded (λ t. inr (inserted_held step _ _ (get_or (prepared_of s) k []) one.kept.inserted t)) (peeling.held k b)
     where
       loaded : 1 ≤ nth load (reading_slot s k) →
-          (1 ≤ nth after (reading_slot s k)) ⊎ T (some_holds (paths (collected rows lens weights r)) (get_or (prepared_of s) k []))
+          (1 ≤ nth after (reading_slot s k)) ⊎ T (some_holds (paths (collected table)) (get_or (prepared_of s) k []))
       loaded l =
           ⊎_elim
           (λ m. inr
-          (held_some (paths (collected rows lens weights r)) (get_or (prepared_of s) k []) (path_of links) (inserted_among step W _ one.kept.inserted)
+          (held_some (paths (collected table)) (get_or (prepared_of s) k []) (path_of links) (inserted_among step _ _ one.kept.inserted)
           (reading_within (get_or (prepared_of s) k []) links
           (subst (OneOf links) (at_reading s k) (among_map (link_at s) (reading_slot s k) one.ws m)))))
           (λ z. inl (omega (arith, lost (reading_slot s k) (omega arith), ap (λ (n : ℕ). one.amount * n) z ∙ mul-zero one.amount)))
           (on_walk (reading_slot s k) one.ws)
 
   -- taking off one walk keeps what is known
-  pub peel_step : Peeling s from to first after (collected rows lens weights r) r
+  pub peel_step : Peeling s from to first after table
   peel_step =
       record {
         long = one.taken.long;
         goes = still_goes;
         below = λ e b. omega (arith, peeling.below e b, lost e b);
-        are_paths = inserted_all step W _ _ one.kept.inserted is_whole.is_a_path (λ n h. h) peeling.are_paths;
-        weights = inserted_all step W _ _ one.kept.inserted one.some (λ n h. omega arith) peeling.weights;
-        at_ends = inserted_all step W _ _ one.kept.inserted is_whole.at_ends (λ n h. h) peeling.at_ends;
+        are_paths = inserted_all step _ _ _ one.kept.inserted is_whole.is_a_path (λ n h. h) peeling.are_paths;
+        weights = inserted_all step _ _ _ one.kept.inserted one.some (λ n h. omega arith) peeling.weights;
+        at_ends = inserted_all step _ _ _ one.kept.inserted is_whole.at_ends (λ n h. h) peeling.at_ends;
         totals = λ i.
-            omega (arith, inserted_total step W _ i one.kept.inserted, peeling.totals i, worth_less (passes i) (through i (path_of links)) (is_whole.items i));
-        copies = omega (arith, inserted_weight step W _ one.kept.inserted, peeling.copies, copies_less);
+            omega (arith, inserted_total step _ _ i one.kept.inserted, peeling.totals i, worth_less (passes i) (through i (path_of links)) (is_whole.items i));
+        copies = omega (arith, inserted_weight step _ _ one.kept.inserted, peeling.copies, copies_less);
         held = still_held;
         few = omega (arith, one.kept.few, peeling.few, loaded_less);
       }
@@ -278,66 +271,83 @@ ascend_rows f (suc (suc n)) first h = (
   ascend_rows f (suc n) (suc first) (λ k a b. h k (omega arith) (omega arith)),
 )
 
-table_ascends : (rows : List (List ℕ)) (lens weights : List ℕ) (count : ℕ) → PathTable rows lens weights count → Ascend (collected rows lens weights count)
+table_ascends : (table : Paths) → PathTable table → Ascend (collected table)
 unfolding collected
-table_ascends rows lens weights count t = ascend_rows (collected_at rows lens weights) count 0 (λ k a b. t.ascends k (omega arith))
+table_ascends table t = ascend_rows (collected_at table) table.count 0 (λ k a b. t.ascends k (omega arith))
 
 -- Once the root sends nothing, the collected paths carry all loads.
-pub peel_end : (s : List ℕ) → Reads s → (from to first load : List ℕ) (rows : List (List ℕ)) (lens weights : List ℕ) (count : ℕ) →
-    PathTable rows lens weights count → Peeling s from to first load (collected rows lens weights count) count →
-    ((e : ℕ) → e < all_slots s → nth from e ≡ 0 → nth load e ≡ 0) → Peeled s first (collected rows lens weights count)
+pub peel_end : (s : List ℕ) → Reads s → (from to first load : List ℕ) (table : Paths) → PathTable table → Peeling s from to first load table →
+    ((e : ℕ) → e < all_slots s → nth from e ≡ 0 → nth load e ≡ 0) → Peeled s first (collected table)
 unfolding collected
-peel_end s reads from to first load rows lens weights count table p root =
+peel_end s reads from to first load table right p root =
     let c = circles s reads from to load p.goes in
     record {
       are_paths = p.are_paths;
       weights = p.weights;
-      ascend = table_ascends rows lens weights count table;
+      ascend = table_ascends table right;
       totals = λ i. omega (arith, p.totals i, nothing_left _ _ from to load c root (λ e. passes i (link_at s e)));
       copies = omega (arith, p.copies, nothing_left _ _ from to load c root (opens_at s));
       at_ends = p.at_ends;
       held = λ r b. ⊎_elim (λ l. absurd (omega (arith, none_left _ _ from to load c root (reading_slot s r) (omega arith)))) (λ t. t) (p.held r b);
-      few = omega (arith, p.few, length_tabulate (collected_at rows lens weights) count 0);
+      few = omega (arith, p.few, length_tabulate (collected_at table) table.count 0);
     }
 
--- nothing is taken off yet
-pub peel_start : (s : List ℕ) (from to load : List ℕ) (rows : List (List ℕ)) (lens weights : List ℕ) → length load ≡ most_edges →
-    GoesRound s (2 * vertex_count s + 1) from to load → ((r : ℕ) → r < length (prepared_of s) → 1 ≤ nth load (reading_slot s r)) →
-    Peeling s from to load load (collected rows lens weights 0) 0
+none_collected : (table : Paths) → table.count ≡ 0 → collected table ≡ []
 unfolding collected
-peel_start s from to load rows lens weights l g h =
+none_collected table z = ap (λ (n : ℕ). tabulate (collected_at table) n 0) z
+
+-- nothing is taken off yet
+pub peel_start : (s : List ℕ) (from to load : List ℕ) (table : Paths) → table.count ≡ 0 → length load ≡ most_edges →
+    GoesRound s (2 * vertex_count s + 1) from to load → ((r : ℕ) → r < length (prepared_of s) → 1 ≤ nth load (reading_slot s r)) →
+    Peeling s from to load load table
+peel_start s from to load table z l g h =
+    let none = none_collected table z in
     record {
       long = l;
       goes = g;
       below = λ e b. omega arith;
-      are_paths = tt;
-      weights = tt;
-      at_ends = tt;
-      totals = λ i. omega arith;
-      copies = omega arith;
+      are_paths = rw none tt;
+      weights = rw none tt;
+      at_ends = rw none tt;
+      totals = λ i. rw none (omega arith);
+      copies = rw none (omega arith);
       held = λ r b. inl (h r b);
       few = omega (arith, loaded_few (all_slots s) load);
     }
 
 -- one weight is no more than all
-weight_part : (rows : List (List ℕ)) (lens weights : List ℕ) (n first k : ℕ) → first ≤ k → k < first + n →
-    nth weights k ≤ total_weight (tabulate (collected_at rows lens weights) n first)
-weight_part rows lens weights zero first k a b = absurd (omega arith)
-weight_part rows lens weights (suc n) first k a b =
-    ⊎_elim (λ q. rw q (omega arith)) (λ m. omega (arith, weight_part rows lens weights n (suc first) k (omega arith) (omega arith))) (same_or_not k first)
+weight_part : (table : Paths) (n first k : ℕ) → first ≤ k → k < first + n → (path_at table k).weight ≤ total_weight (tabulate (collected_at table) n first)
+weight_part table zero first k a b = absurd (omega arith)
+weight_part table (suc n) first k a b =
+    ⊎_elim (λ q. rw q (omega arith)) (λ m. omega (arith, weight_part table n (suc first) k (omega arith) (omega arith))) (same_or_not k first)
 
 -- there is room for one path more, and for its weight
-pub step_room : (s from to first load : List ℕ) (rows : List (List ℕ)) (lens weights : List ℕ) (count e : ℕ) → all_slots s ≤ most_edges →
-    worth_of s first (opens_at s) ≤ most_moved → Peeling s from to first load (collected rows lens weights count) count → e < all_slots s → 1 ≤ nth load e →
-    (count < most_edges) × ((k : ℕ) → k < count → nth weights k + worth_of s load (opens_at s) ≤ most_moved)
+pub step_room : (s from to first load : List ℕ) (table : Paths) (e : ℕ) → all_slots s ≤ most_edges → worth_of s first (opens_at s) ≤ most_moved →
+    Peeling s from to first load table → e < all_slots s → 1 ≤ nth load e →
+    (table.count < most_edges) × ((k : ℕ) → k < table.count → (path_at table k).weight + worth_of s load (opens_at s) ≤ most_moved)
 unfolding collected
-step_room s from to first load rows lens weights count e small low p b l = (
+step_room s from to first load table e small low p b l = (
   omega (arith, p.few, sum_term (all_slots s) e (λ j. min 1 (nth load j)) b),
-  λ k h. omega (arith, p.copies, weight_part rows lens weights count 0 k (omega arith) (omega arith)),
+  λ k h. omega (arith, p.copies, weight_part table table.count 0 k (omega arith) (omega arith)),
 )
 
--- between two walks: the root's next loaded edge is h - 1, and what is collected stands in the table
-pub record Between (s : List ℕ) (edges : ℕ) (from to first load : List ℕ) (rows : List (List ℕ)) (lens weights : List ℕ) (count h : ℕ) : Type 0 where
-  pub next : NextLoaded edges from load 0 h
-  pub peeling : Peeling s from to first load (collected rows lens weights count) count
-  pub table : PathTable rows lens weights count
+-- between two walks: what is taken off so far stands in the table
+pub record Between (s : List ℕ) (from to first load : List ℕ) (paths' : Paths) : Type 0 where
+  pub peeling : Peeling s from to first load paths'
+  pub table : PathTable paths'
+
+pub between_start : (s from to load : List ℕ) (paths' : Paths) → paths'.count ≡ 0 → length paths'.rows ≡ most_edges → length load ≡ most_edges →
+    GoesRound s (2 * vertex_count s + 1) from to load → ((r : ℕ) → r < length (prepared_of s) → 1 ≤ nth load (reading_slot s r)) →
+    Between s from to load load paths'
+between_start s from to load paths' z tall l g h =
+    record {
+      peeling = peel_start s from to load paths' z l g h;
+      table =
+          record {
+            counted = omega arith;
+            tall = tall;
+            wide = λ k b. absurd (omega arith);
+            fit = λ k b. absurd (omega arith);
+            ascends = λ k b. absurd (omega arith);
+          };
+    }

@@ -1,54 +1,52 @@
 -- One walk, from what taking paths off asks: the network that is walked, room for the walk's path, and what the walk leaves.
-use Prim.Native.Nat.{ℕ, ◌+◌, ◌*◌, ◌≤◌, ◌<◌}
-use native.Mathlib.Omega.{arith}
-use native.Mathlib.Nat.{mul-one}
-use mathlib.Core.Path.{◌≡◌, sym, ap, subst, subst₂, ◌∙◌}
-use mathlib.Core.List.{List, map}
-use lib.ListN.{length, take}
+use Rattle.std.proofs.Common.{ℕ, ◌+◌, ◌*◌, ◌≤◌, ◌<◌, arith, mul-one, ◌≡◌, sym, ap, subst, subst₂, ◌∙◌, List, map, length}
 use Rattle.mathematics.specs.Lists.{All}
-use Rattle.mathematics.specs.Cover.{Weighted}
 use Rattle.mathematics.proofs.Basics.{all_weaken}
 use Rattle.mathematics.proofs.Links.{opens, path_of, IsWhole}
 use Rattle.forms.specs.GraphForm.{vertex_count}
 use Rattle.forms.specs.GraphOf.{graph_of}
 use Rattle.forms.proofs.GraphFacts.{graph_well_formed}
 use Rattle.network.specs.Network.{nth, most_nodes, most_edges}
+use Rattle.paths.specs.declared.collect.Paths.{Paths}
 use Rattle.paths.specs.Slots.{all_slots, opening_slot, closing_slot, link_at}
 use Rattle.paths.specs.Peel.{Collected, GoesRound, worth_of, Circles, Walked, TakenOff, Ready, opens_at, PeeledOne}
 use Rattle.reads.specs.ReadTable.{row_length}
 use Rattle.paths.proofs.PeelLawsLinks.{circles, whole, path_short, slots_few}
 use Rattle.paths.proofs.PeelLawsAll.{sum_map}
 
-module _ (s : List ℕ) (vertices plain edges : ℕ) (from to head next load : List ℕ) (rows : List (List ℕ)) (lens : List ℕ)
-    (ready : Ready s vertices plain edges from head next rows lens) where
-  pub ready_sizes : (2 * vertices + 1 ≤ most_nodes) × (edges ≤ most_edges)
-  ready_sizes = (omega (arith, ready.held.few_vertices), omega (arith, ready.edges_right, slots_few s ready.reads))
+module _ (s : List ℕ) (vertices plain nodes edges : ℕ) (from to head next load : List ℕ) (rows : List (List ℕ)) (lens : List ℕ)
+    (ready : Ready s vertices plain nodes edges from head next rows lens) where
+  pub ready_sizes : (nodes ≤ most_nodes) × (edges ≤ most_edges)
+  ready_sizes = (
+    omega (arith, ready.nodes_right, ready.held.vertices_right, ready.held.few_vertices),
+    omega (arith, ready.edges_right, slots_few s ready.reads),
+  )
 
   module _ (goes : GoesRound s (2 * vertex_count s + 1) from to load) where
-    pub ready_circles : Circles (2 * vertices + 1) edges from to load
+    pub ready_circles : Circles nodes edges from to load
     ready_circles =
-        subst₂ (λ (n e : ℕ). Circles (2 * n + 1) e from to load) (sym ready.held.vertices_right) (sym ready.edges_right)
+        subst₂ (λ (n e : ℕ). Circles n e from to load) (sym ready.nodes_right) (sym ready.edges_right)
         (circles s ready.reads from to load goes)
 
-    module _ (way : List ℕ) (len amount : ℕ) (walked : Walked edges from to load way len amount) where
-      carries : All (λ e. (e < all_slots s) × (amount ≤ nth load e)) (take len way)
-      carries = subst (λ (n : ℕ). All (λ e. (e < n) × (amount ≤ nth load e)) (take len way)) ready.edges_right walked.carries
+    module _ (ws : List ℕ) (amount : ℕ) (walked : Walked edges from to load ws amount) where
+      carries : All (λ e. (e < all_slots s) × (amount ≤ nth load e)) ws
+      carries = subst (λ (n : ℕ). All (λ e. (e < n) × (amount ≤ nth load e)) ws) ready.edges_right walked.carries
 
-      pub walk_edges : All (λ e. e < all_slots s) (take len way)
-      walk_edges = all_weaken _ _ (take len way) (λ e h. h.0) carries
+      pub walk_edges : All (λ e. e < all_slots s) ws
+      walk_edges = all_weaken _ _ ws (λ e h. h.0) carries
 
       is_whole : IsWhole (graph_of s) (λ v. 1 ≤ nth load (opening_slot s v)) (λ v. 1 ≤ nth load (closing_slot s v)) (graph_well_formed s ready.reads).rises
-          (map (link_at s) (take len way))
+          (map (link_at s) ws)
       is_whole =
-          whole s ready.reads from to load load goes (λ e b. omega arith) (take len way) walked.winds
-          (all_weaken _ _ (take len way) (λ e h. (h.0, omega (arith, walked.some))) carries)
+          whole s ready.reads from to load load goes (λ e b. omega arith) ws walked.winds
+          (all_weaken _ _ ws (λ e h. (h.0, omega (arith, walked.some))) carries)
 
-      pub walk_short : length (path_of (map (link_at s) (take len way))) ≤ row_length
-      walk_short = path_short s ready.reads (path_of (map (link_at s) (take len way))) is_whole.is_a_path
+      pub walk_short : length (path_of (map (link_at s) ws)) ≤ row_length
+      walk_short = path_short s ready.reads (path_of (map (link_at s) ws)) is_whole.is_a_path
 
-      module _ (after : List ℕ) (off : TakenOff edges load (take len way) amount after) where
-        taken : TakenOff (all_slots s) load (take len way) amount after
-        taken = subst (λ (n : ℕ). TakenOff n load (take len way) amount after) ready.edges_right off
+      module _ (after : List ℕ) (off : TakenOff edges load ws amount after) where
+        taken : TakenOff (all_slots s) load ws amount after
+        taken = subst (λ (n : ℕ). TakenOff n load ws amount after) ready.edges_right off
 
         -- a walk opens as many copies as it takes off
         pub amount_low : amount ≤ worth_of s load (opens_at s)
@@ -56,20 +54,19 @@ module _ (s : List ℕ) (vertices plain edges : ℕ) (from to head next load : L
             omega (
               arith,
               taken.worths (opens_at s),
-              ap (λ (n : ℕ). amount * n) (sym (sum_map opens (link_at s) (take len way)) ∙ is_whole.opened) ∙ mul-one amount,
+              ap (λ (n : ℕ). amount * n) (sym (sum_map opens (link_at s) ws) ∙ is_whole.opened) ∙ mul-one amount,
             )
 
-        pub one_taken : (p : List ℕ) (W : List Weighted) (count : ℕ) (paths : List (List ℕ)) (sizes weights : List ℕ) (r : ℕ) →
-            p ≡ path_of (map (link_at s) (take len way)) → Collected (record { weight = amount; path = p }) W count paths sizes weights r →
-            PeeledOne s from to load after W count paths sizes weights r
-        one_taken p W count paths sizes weights r e c =
+        pub one_taken : (p : List ℕ) (before table : Paths) → p ≡ path_of (map (link_at s) ws) →
+            Collected (record { weight = amount; path = p }) before table → PeeledOne s from to load after before table
+        one_taken p before table e c =
             record {
-              ws = take len way;
+              ws = ws;
               amount = amount;
               winds = walked.winds;
               carries = carries;
               some = walked.some;
               empties = walked.empties;
               taken = taken;
-              kept = subst (λ (q : List ℕ). Collected (record { weight = amount; path = q }) W count paths sizes weights r) e c;
+              kept = subst (λ (q : List ℕ). Collected (record { weight = amount; path = q }) before table) e c;
             }

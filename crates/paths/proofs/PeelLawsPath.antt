@@ -1,43 +1,27 @@
 -- Laws of writing a walk's path into a row, over plain lists.
-use Prim.Native.Nat.{ℕ, suc, ◌+◌, ◌-◌, ◌≤◌, ◌<◌}
-use native.Mathlib.Omega.{arith}
-use native.Mathlib.Numerals.{add-one}
-use mathlib.Core.Path.{◌≡◌, refl, sym, ap, subst, ◌∙◌}
-use mathlib.Core.List.{List, [], ◌∷◌, ◌++◌, map, append_assoc, append-nil}
-use lib.ListN.{length, get_or, set, take, drop, length-set, length-append, take-append-drop}
-use lib.Seq.{take-suc, take-suc-set, take-take, get_or-take, length-take-le}
-use Rattle.mathematics.specs.Lists.{All}
+use Rattle.std.proofs.Common.{ℕ, ◌+◌, ◌-◌, ◌≤◌, ◌<◌, arith, add-one, ◌≡◌, sym, ap, subst, ◌∙◌, List, [], ◌∷◌, ◌++◌, map, append_assoc, append-nil, length, get_or, set, take, drop, length-set, length-append, length-drop, take-append-drop, take-suc, take-suc-set, length-take-le}
+use Rattle.std.proofs.Math.Seq.{take-append_seam}
 use Rattle.mathematics.proofs.Links.{Link, reading, link_vertices, path_of}
-use Rattle.mathematics.proofs.Basics.{at_all}
 use Rattle.reads.specs.ReadTable.{row_at, RowHolds, row_length}
 use Rattle.reads.proofs.TableRows.{table_get, table_row}
-use Rattle.network.specs.Network.{nth, most_nodes}
+use Rattle.network.specs.Network.{nth}
 use Rattle.paths.specs.Slots.{prepared_of, all_slots, link_at, reading_slot}
 use Rattle.paths.specs.Peel.{ReadsHeld, Written}
 use Rattle.paths.proofs.SlotKinds.{SlotKind, is_inside, is_across, is_opening, is_closing, slot_kind, at_inside, at_reading}
 
--- copying number by number
-pub copy_none : (row src : List ℕ) (r : ℕ) → length row ≡ row_length → Written row r (take 0 src) row (r + 0)
-copy_none row src r w =
+-- as many vertices as there are places, written behind the first r numbers of a row
+copied : (row vs : List ℕ) (r k : ℕ) → length row ≡ row_length → r + k ≤ row_length → length vs ≡ k →
+    Written row r vs (take r row ++ (vs ++ drop k (drop r row))) (r + k)
+copied row vs r k w b l =
+    let first = length-take-le r row (omega arith) in
+    let front : List ℕ = take r row ++ vs in
+    let e : r + k ≡ length front = omega (arith, length-append (take r row) vs) in
     record {
-      wide = w;
-      end_right = refl;
-      stand = let i : r + 0 ≡ r = omega arith in ap (λ (n : ℕ). take n row) i ∙ sym (append-nil (take r row));
-    }
-
-pub copy_turn : (before row src : List ℕ) (r k : ℕ) → r + k < row_length → k < length src → Written before r (take k src) row (r + k) →
-    Written before r (take (k + 1) src) (set row (r + k) (nth src k)) (r + (k + 1))
-copy_turn before row src r k b l w =
-    record {
-      wide = length-set row (r + k) (nth src k) ∙ w.wide;
-      end_right = omega (arith, length-take-le (k + 1) src (omega arith));
+      wide = simp (length-append, length-drop) (omega arith);
+      end_right = omega arith;
       stand =
-          let i : r + (k + 1) ≡ suc (r + k) = omega arith in
-          ap (λ (n : ℕ). take n (set row (r + k) (nth src k))) i ∙
-          (take-suc-set row (r + k) (nth src k) (omega (arith, w.wide)) ∙
-          (ap (λ (xs : List ℕ). xs ++ (nth src k ∷ [])) w.stand ∙
-          (append_assoc (take r before) (take k src) (nth src k ∷ []) ∙
-          (ap (λ (xs : List ℕ). take r before ++ xs) (sym (take-suc src k 0 l)) ∙ ap (λ (n : ℕ). take r before ++ take n src) (sym (add-one k))))));
+          ap (take (r + k)) (sym (append_assoc (take r row) vs (drop k (drop r row)))) ∙
+          (ap (λ (n : ℕ). take n (front ++ drop k (drop r row))) e ∙ take-append_seam front (drop k (drop r row)));
     }
 
 module _ (s : List ℕ) (vertices plain : ℕ) (rows : List (List ℕ)) (lens : List ℕ) (held : ReadsHeld s vertices plain rows lens) (e : ℕ) where
@@ -93,14 +77,20 @@ module _ (s : List ℕ) (vertices plain : ℕ) (rows : List (List ℕ)) (lens : 
         stand = sym (append-nil (take r row)) ∙ ap (λ (vs : List ℕ). take r row ++ vs) (sym (other_link h l));
       }
 
-  pub put_read : (before row : List ℕ) (r : ℕ) → plain ≤ e → e < all_slots s →
-      Written before r (take (nth lens (e - plain)) (get_or rows (e - plain) [])) row (r + nth lens (e - plain)) →
-      Written before r (link_vertices (link_at s e)) row (r + nth lens (e - plain))
-  put_read before row r h b w = subst (λ (vs : List ℕ). Written before r vs row (r + nth lens (e - plain))) (sym (read_link h b)) w
-
   pub read_room : plain ≤ e → e < all_slots s → length (link_vertices (link_at s e)) ≡ nth lens (e - plain)
   read_room h b =
       ap length (read_link h b) ∙ length-take-le (nth lens (e - plain)) (get_or rows (e - plain) []) (omega (arith, (read_holds h b).fit, (read_holds h b).wide))
+
+  -- the read's vertices, copied from its row
+  pub put_read : (row new : List ℕ) (r k : ℕ) → length row ≡ row_length → plain ≤ e → e < all_slots s → r + nth lens (e - plain) ≤ row_length →
+      k ≡ nth lens (e - plain) → new ≡ take (nth lens (e - plain)) (get_or rows (e - plain) []) →
+      Written row r (link_vertices (link_at s e)) (take r row ++ (new ++ drop k (drop r row))) (r + nth lens (e - plain))
+  put_read row new r k w h b room same q =
+      let long : length new ≡ k = omega (arith, ap length (read_link h b), read_room h b, ap length q) in
+      let d : k ≡ nth lens (e - plain) = same in
+      subst (λ (n : ℕ). Written row r (link_vertices (link_at s e)) (take r row ++ (new ++ drop k (drop r row))) (r + n)) d
+      (subst (λ (vs : List ℕ). Written row r vs (take r row ++ (new ++ drop k (drop r row))) (r + k)) (q ∙ sym (read_link h b))
+      (copied row new r k w (omega arith) long))
 
 -- the path of a walk, edge by edge
 path_snoc : (f : ℕ → Link) (ws : List ℕ) (e : ℕ) → path_of (map f (ws ++ (e ∷ []))) ≡ path_of (map f ws) ++ link_vertices (f e)
@@ -122,28 +112,21 @@ pub record Writing (f : ℕ → Link) (way row : List ℕ) (k r : ℕ) : Type 0 
   pub long : r ≡ length (path_of (map f (take k way)))
   pub stand : take r row ≡ path_of (map f (take k way))
 
-module _ (f : ℕ → Link) (way : List ℕ) (len k : ℕ) (few : len ≤ most_nodes) (long : length way ≡ most_nodes) (inside : k < len) where
+module _ (f : ℕ → Link) (way : List ℕ) (k : ℕ) (inside : k < length way) where
   next : path_of (map f (take (k + 1) way)) ≡ path_of (map f (take k way)) ++ link_vertices (f (nth way k))
   next =
       ap (λ (n : ℕ). path_of (map f (take n way))) (add-one k) ∙
-      (ap (λ (ws : List ℕ). path_of (map f ws)) (take-suc way k 0 (omega arith)) ∙ path_snoc f (take k way) (nth way k))
+      (ap (λ (ws : List ℕ). path_of (map f ws)) (take-suc way k 0 inside) ∙ path_snoc f (take k way) (nth way k))
 
-  pub way_edge : (P : ℕ → Type 0) → All P (take len way) → P (nth way k)
-  way_edge P h =
-      subst P (get_or-take len way k 0 inside)
-      (at_all P 0 (take len way) h k (omega (arith, length-take-le len way (omega arith))))
-
-  pub write_room : length (path_of (map f (take len way))) ≤ row_length → (row : List ℕ) (r : ℕ) → Writing f way row k r → r + length (link_vertices (f (nth way k))) ≤ row_length
+  pub write_room : length (path_of (map f way)) ≤ row_length → (row : List ℕ) (r : ℕ) → Writing f way row k r → r + length (link_vertices (f (nth way k))) ≤ row_length
   write_room h row r w =
-      let whole : take (k + 1) way ++ drop (k + 1) (take len way) ≡ take len way =
-      ap (λ (ws : List ℕ). ws ++ drop (k + 1) (take len way)) (sym (take-take (k + 1) len way (omega arith))) ∙ take-append-drop (k + 1) (take len way) in
       omega (
         arith,
         w.long,
         ap length next,
         length-append (path_of (map f (take k way))) (link_vertices (f (nth way k))),
-        path_part f (take (k + 1) way) (drop (k + 1) (take len way)),
-        ap (λ (ws : List ℕ). length (path_of (map f ws))) whole,
+        path_part f (take (k + 1) way) (drop (k + 1) way),
+        ap (λ (ws : List ℕ). length (path_of (map f ws))) (take-append-drop (k + 1) way),
       )
 
   pub write_turn : (before row : List ℕ) (r end : ℕ) → Writing f way before k r → Written before r (link_vertices (f (nth way k))) row end → Writing f way row (k + 1) end

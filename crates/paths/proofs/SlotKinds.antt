@@ -1,11 +1,5 @@
 -- Which link stands at each slot of a graph form: the link at the slot of each vertex, arc, opening, closing and read, and of each slot the kind.
-use Prim.Native.Nat.{ℕ, ◌+◌, ◌*◌, ◌-◌, ◌≤◌, ◌<◌}
-use native.Mathlib.Omega.{arith}
-use mathlib.Core.Path.{◌≡◌, refl, ap, ◌∙◌}
-use mathlib.Core.List.{List, []}
-use mathlib.Core.Logic.{◌⊎◌, inl, inr}
-use borrow.Author.Tests.{lt-ltb, le-ltb}
-use lib.ListN.{get_or}
+use Rattle.std.proofs.Common.{ℕ, ◌+◌, ◌*◌, ◌-◌, ◌≤◌, ◌<◌, arith, ◌≡◌, refl, ap, ◌∙◌, List, [], ◌⊎◌, inl, inr, lt-ltb, le-ltb, get_or}
 use Rattle.mathematics.proofs.Links.{opening, closing, inside, across, reading}
 use Rattle.forms.specs.GraphForm.{vertex_count, arc_count, arc_at, arc_tail, arc_head}
 use Rattle.network.proofs.NetworkLaws.{below_or_not}

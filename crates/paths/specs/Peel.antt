@@ -1,6 +1,6 @@
 -- Taking paths off the loads: what the table of collected paths stands for, and what it has to hold once all loads are taken off. `peel_all`
 -- promises in these words; no promise of the builder's call does.
-use Rattle.std.specs.Prelude.{ℕ, ◌+◌, ◌*◌, ◌-◌, ◌≤◌, ◌<◌, min, ◌≡◌, List, [], ◌∷◌, ◌++◌, map, true, false, cond, ◌⊎◌, T, ltb, length, get_or, take}
+use Rattle.std.specs.Prelude.{ℕ, ◌+◌, ◌*◌, ◌-◌, ◌≤◌, ◌<◌, min, ◌≡◌, List, [], ◌∷◌, ◌++◌, map, Option, Some, None, Result, Ok, Err, ◌⊎◌, T, length, get_or, take}
 use Rattle.mathematics.specs.Lists.{All, sum_over, some_holds}
 use Rattle.mathematics.specs.Graph.{is_path}
 use Rattle.mathematics.specs.Cover.{Item, Weighted, total, total_weight, paths}
@@ -12,20 +12,35 @@ use Rattle.forms.specs.GraphOf.{graph_of}
 use Rattle.forms.specs.GraphReads.{Reads}
 use Rattle.reads.specs.ReadTable.{Leaves, row_length}
 use Rattle.forms.specs.AnswerFaults.{list_before}
-use Rattle.paths.specs.declared.collect.Spot.{Spot}
+use Rattle.paths.specs.declared.collect.Path.{Path}
+use Rattle.paths.specs.declared.collect.Paths.{Paths}
 use Rattle.network.specs.Network.{nth, sum_to, leaving, entering, Chained, most_nodes, most_edges}
 use Rattle.paths.specs.Slots.{prepared_of, plain_slots, all_slots, opening_slot, closing_slot, reading_slot, link_at, in_use, edge_from, edge_to}
 
--- the path in row i of the table of collected paths, and with its weight
-abbrev pub path_in_row : List (List ℕ) → List ℕ → ℕ → List ℕ
-path_in_row rows lens i = take (nth lens i) (get_or rows i [])
+-- a row that holds no path
+abbrev pub no_path : Path
+no_path = record { weight = 0; size = 0; row = [] }
 
-abbrev pub collected_at : List (List ℕ) → List ℕ → List ℕ → ℕ → Weighted
-collected_at rows lens weights i = record { weight = nth weights i; path = path_in_row rows lens i }
+-- the vertices of a collected path, and the path with its weight
+abbrev pub vertices_of : Path → List ℕ
+vertices_of p = take p.size p.row
+
+abbrev pub weighted_of : Path → Weighted
+weighted_of p = record { weight = p.weight; path = vertices_of p }
+
+-- what stands in row i of the table of collected paths, its path, and the path with its weight
+abbrev pub path_at : Paths → ℕ → Path
+path_at table i = get_or table.rows i no_path
+
+abbrev pub path_in_row : Paths → ℕ → List ℕ
+path_in_row table i = vertices_of (path_at table i)
+
+abbrev pub collected_at : Paths → ℕ → Weighted
+collected_at table i = weighted_of (path_at table i)
 
 -- the weighted paths in the first count rows
-unfoldable pub collected : List (List ℕ) → List ℕ → List ℕ → ℕ → List Weighted
-collected rows lens weights count = tabulate (collected_at rows lens weights) count 0
+unfoldable pub collected : Paths → List Weighted
+collected table = tabulate (collected_at table) table.count 0
 
 -- "Paths strictly ascend as lists of numbers"
 abbrev pub Ascend : List Weighted → Type 0
@@ -33,41 +48,30 @@ Ascend [] = Unit {0}
 Ascend (w ∷ []) = Unit {0}
 Ascend (w ∷ x ∷ more) = T (list_before w.path x.path) × Ascend (x ∷ more)
 
--- where the list p stands beside q: 0 before it, 1 where they are the same, 2 after it
-unfoldable pub order_of : List ℕ → List ℕ → ℕ
-order_of [] [] = 1
-order_of [] (y ∷ q) = 0
-order_of (x ∷ p) [] = 2
-order_of (x ∷ p) (y ∷ q) = cond (ltb x y) 0 (cond (ltb y x) 2 (order_of p q))
-
 -- a row, as long as one of the table of reads, of which the first len numbers are in use
 pub record RowFits (row : List ℕ) (len : ℕ) : Type 0 where
   pub wide : length row ≡ row_length
   pub fit : len ≤ row_length
 
--- The table has a row, a length and a weight for each edge that there can be, since each path that is taken off empties an edge; and the paths in its
--- first count rows strictly ascend.
-pub record PathTable (rows : List (List ℕ)) (lens weights : List ℕ) (count : ℕ) : Type 0 where
-  pub counted : count ≤ most_edges
-  pub tall : length rows ≡ most_edges
-  pub sized : length lens ≡ most_edges
-  pub weighed : length weights ≡ most_edges
-  pub wide : (k : ℕ) → k < count → length (get_or rows k []) ≡ row_length
-  pub fit : (k : ℕ) → k < count → nth lens k ≤ row_length
-  pub ascends : (k : ℕ) → k + 1 < count → T (list_before (path_in_row rows lens k) (path_in_row rows lens (k + 1)))
+-- The table has a row for each edge that there can be, since each path that is taken off empties an edge; and the paths in its first count rows
+-- strictly ascend.
+pub record PathTable (table : Paths) : Type 0 where
+  pub counted : table.count ≤ most_edges
+  pub tall : length table.rows ≡ most_edges
+  pub wide : (k : ℕ) → k < table.count → length (path_at table k).row ≡ row_length
+  pub fit : (k : ℕ) → k < table.count → (path_at table k).size ≤ row_length
+  pub ascends : (k : ℕ) → k + 1 < table.count → T (list_before (path_in_row table k) (path_in_row table (k + 1)))
+
+-- the path p belongs into row i
+pub record Belongs (table : Paths) (p : List ℕ) (i : ℕ) : Type 0 where
+  pub within : i ≤ table.count
+  pub before : 1 ≤ i → T (list_before (path_in_row table (i - 1)) p)
+  pub after : i < table.count → T (list_before p (path_in_row table i))
 
 -- where the path p stands in the table, or belongs
-pub record Spotted (rows : List (List ℕ)) (lens : List ℕ) (count : ℕ) (p : List ℕ) (spot : Spot) : Type 0 where
-  pub same : spot.same ≡ true → (spot.at < count) × (p ≡ path_in_row rows lens spot.at)
-  pub within : spot.same ≡ false → spot.at ≤ count
-  pub before : spot.same ≡ false → 1 ≤ spot.at → T (list_before (path_in_row rows lens (spot.at - 1)) p)
-  pub after : spot.same ≡ false → spot.at < count → T (list_before p (path_in_row rows lens spot.at))
-
--- what stands from j on up to count has moved one place on
-pub record Shifted {A : Type 0} (none : A) (old new : List A) (j count : ℕ) : Type 0 where
-  pub long : length new ≡ length old
-  pub before : (k : ℕ) → k ≤ j → get_or new k none ≡ get_or old k none
-  pub after : (k : ℕ) → j < k → k ≤ count → get_or new k none ≡ get_or old (k - 1) none
+abbrev pub Spotted : Paths → List ℕ → Result ℕ ℕ → Type 0
+Spotted table p (Ok i) = (i < table.count) × (p ≡ path_in_row table i)
+Spotted table p (Err i) = Belongs table p i
 
 -- the weighted path w is added to the list: as a new one, or to the weight of the same path
 pub data Inserted (w : Weighted) (W after : List Weighted) : Type 0 where
@@ -75,18 +79,11 @@ pub data Inserted (w : Weighted) (W after : List Weighted) : Type 0 where
   added : (a b : List Weighted) (n : ℕ) → W ≡ a ++ (record { weight = n; path = w.path } ∷ b) →
       after ≡ a ++ (record { weight = n + w.weight; path = w.path } ∷ b) → Inserted w W after
 
--- the path p belongs into row i
-pub record Belongs (rows : List (List ℕ)) (lens : List ℕ) (count : ℕ) (p : List ℕ) (i : ℕ) : Type 0 where
-  pub room : count < most_edges
-  pub within : i ≤ count
-  pub before : 1 ≤ i → T (list_before (path_in_row rows lens (i - 1)) p)
-  pub after : i < count → T (list_before p (path_in_row rows lens i))
-
--- the table holds the weighted path w besides W, which it held in its first count rows
-pub record Collected (w : Weighted) (W : List Weighted) (count : ℕ) (rows : List (List ℕ)) (lens weights : List ℕ) (r : ℕ) : Type 0 where
-  pub table : PathTable rows lens weights r
-  pub inserted : Inserted w W (collected rows lens weights r)
-  pub few : r ≤ count + 1
+-- the table holds the weighted path w besides those that it held before
+pub record Collected (w : Weighted) (before after : Paths) : Type 0 where
+  pub table : PathTable after
+  pub inserted : Inserted w (collected before) (collected after)
+  pub few : after.count ≤ before.count + 1
 
 -- what writing a walk's path asks: the number of vertices, the number of the first read's edge, and the table of the prepared reads
 pub record ReadsHeld (s : List ℕ) (vertices plain : ℕ) (rows : List (List ℕ)) (lens : List ℕ) : Type 0 where
@@ -123,6 +120,11 @@ pub record Circles (N E : ℕ) (from to load : List ℕ) : Type 0 where
   pub rises : (e : ℕ) → e < E → 1 ≤ nth load e → ((nth to e ≡ 0) × (1 ≤ nth from e)) ⊎ (nth from e < nth to e)
   pub balance : (u : ℕ) → u < N → leaving from load E u ≡ entering to load E u
 
+-- the number plus 1, and 0 where there is none
+abbrev pub plus_one : Option ℕ → ℕ
+plus_one None = 0
+plus_one (Some e) = e + 1
+
 -- r is the number plus 1 of a loaded edge that leaves u, or 0 where there is none
 pub record NextLoaded (E : ℕ) (from load : List ℕ) (u r : ℕ) : Type 0 where
   pub none : r ≡ 0 → (e : ℕ) → e < E → nth from e ≡ u → nth load e ≡ 0
@@ -133,13 +135,12 @@ abbrev pub Winds : List ℕ → List ℕ → ℕ → List ℕ → Type 0
 Winds from to u [] = ⊥
 Winds from to u (e ∷ es) = (nth from e ≡ u) × (((nth to e ≡ 0) × (es ≡ [])) ⊎ ((u < nth to e) × Winds from to (nth to e) es))
 
--- A walk from the root back to it: its edges are the first len of the way, and amount is the least load on them.
-pub record Walked (E : ℕ) (from to load way : List ℕ) (len amount : ℕ) : Type 0 where
-  pub fits : len ≤ most_nodes
-  pub winds : Winds from to 0 (take len way)
-  pub carries : All (λ e. (e < E) × (amount ≤ nth load e)) (take len way)
+-- A walk from the root back to it, along the edges ws: amount is the least load on them.
+pub record Walked (E : ℕ) (from to load ws : List ℕ) (amount : ℕ) : Type 0 where
+  pub winds : Winds from to 0 ws
+  pub carries : All (λ e. (e < E) × (amount ≤ nth load e)) ws
   pub some : 1 ≤ amount
-  pub empties : (e : ℕ) × OneOf (take len way) e × (nth load e ≡ amount)
+  pub empties : (e : ℕ) × OneOf ws e × (nth load e ≡ amount)
 
 -- the loads after each edge of the way has lost the amount: whatever the edges are worth
 pub record TakenOff (E : ℕ) (load : List ℕ) (ws : List ℕ) (amount : ℕ) (after : List ℕ) : Type 0 where
@@ -158,11 +159,12 @@ pub record Peeled (s : List ℕ) (load : List ℕ) (W : List Weighted) : Type 0 
   pub few : length W ≤ all_slots s
 
 -- What taking paths off asks of its arrays: a form that reads, its edges chained by where they come from, the table of its prepared reads.
-pub record Ready (s : List ℕ) (vertices plain edges : ℕ) (from head next : List ℕ) (rows : List (List ℕ)) (lens : List ℕ) : Type 0 where
+pub record Ready (s : List ℕ) (vertices plain nodes edges : ℕ) (from head next : List ℕ) (rows : List (List ℕ)) (lens : List ℕ) : Type 0 where
   pub reads : Reads s
   pub held : ReadsHeld s vertices plain rows lens
+  pub nodes_right : nodes ≡ 2 * vertex_count s + 1
   pub edges_right : edges ≡ all_slots s
-  pub chained : Chained (2 * vertices + 1) edges from head next
+  pub chained : Chained nodes edges from head next
 
 -- how many of the first E edges carry something
 abbrev pub loaded_in : ℕ → List ℕ → ℕ
@@ -172,8 +174,8 @@ loaded_in E load = sum_to E (λ e. min 1 (nth load e))
 abbrev pub opens_at : List ℕ → ℕ → ℕ
 opens_at s e = opens (link_at s e)
 
--- One walk is taken off: its edges, the amount, the loads after it and the table of collected paths, which held W before.
-pub record PeeledOne (s from to load after : List ℕ) (W : List Weighted) (count : ℕ) (rows : List (List ℕ)) (lens weights : List ℕ) (r : ℕ) : Type 0 where
+-- One walk is taken off: its edges, the amount, the loads after it and the table of collected paths, which was as `before`.
+pub record PeeledOne (s from to load after : List ℕ) (before table : Paths) : Type 0 where
   pub ws : List ℕ
   pub amount : ℕ
   pub winds : Winds from to 0 ws
@@ -181,17 +183,17 @@ pub record PeeledOne (s from to load after : List ℕ) (W : List Weighted) (coun
   pub some : 1 ≤ amount
   pub empties : (e : ℕ) × OneOf ws e × (nth load e ≡ amount)
   pub taken : TakenOff (all_slots s) load ws amount after
-  pub kept : Collected (record { weight = amount; path = path_of (map (link_at s) ws) }) W count rows lens weights r
+  pub kept : Collected (record { weight = amount; path = path_of (map (link_at s) ws) }) before table
 
--- Part of the loads is taken off, as the weighted paths W, count of them; load is what is left.
-pub record Peeling (s from to first load : List ℕ) (W : List Weighted) (count : ℕ) : Type 0 where
+-- Part of the loads is taken off, as the weighted paths of the table; load is what is left.
+pub record Peeling (s from to first load : List ℕ) (table : Paths) : Type 0 where
   pub long : length load ≡ most_edges
   pub goes : GoesRound s (2 * vertex_count s + 1) from to load
   pub below : (e : ℕ) → e < all_slots s → nth load e ≤ nth first e
-  pub are_paths : All (λ w. T (is_path (graph_of s) w.path)) W
-  pub weights : All (λ w. 1 ≤ w.weight) W
-  pub at_ends : All (λ w. AtEnds (λ v. 1 ≤ nth first (opening_slot s v)) (λ v. 1 ≤ nth first (closing_slot s v)) w.path) W
-  pub totals : (i : Item) → total i W + worth_of s load (λ e. passes i (link_at s e)) ≡ worth_of s first (λ e. passes i (link_at s e))
-  pub copies : total_weight W + worth_of s load (opens_at s) ≡ worth_of s first (opens_at s)
-  pub held : (r : ℕ) → r < length (prepared_of s) → (1 ≤ nth load (reading_slot s r)) ⊎ T (some_holds (paths W) (get_or (prepared_of s) r []))
-  pub few : count + loaded_in (all_slots s) load ≤ all_slots s
+  pub are_paths : All (λ w. T (is_path (graph_of s) w.path)) (collected table)
+  pub weights : All (λ w. 1 ≤ w.weight) (collected table)
+  pub at_ends : All (λ w. AtEnds (λ v. 1 ≤ nth first (opening_slot s v)) (λ v. 1 ≤ nth first (closing_slot s v)) w.path) (collected table)
+  pub totals : (i : Item) → total i (collected table) + worth_of s load (λ e. passes i (link_at s e)) ≡ worth_of s first (λ e. passes i (link_at s e))
+  pub copies : total_weight (collected table) + worth_of s load (opens_at s) ≡ worth_of s first (opens_at s)
+  pub held : (r : ℕ) → r < length (prepared_of s) → (1 ≤ nth load (reading_slot s r)) ⊎ T (some_holds (paths (collected table)) (get_or (prepared_of s) r []))
+  pub few : table.count + loaded_in (all_slots s) load ≤ all_slots s

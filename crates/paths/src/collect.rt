@@ -1,148 +1,116 @@
 // The table of collected paths: strictly ascending, each with its weight. Walks come out nearly in order, so a new path is looked for from the end.
-ghost use Rattle.std.specs.Prelude.{◌≡◌, [], ℕ, ◌+◌, ◌-◌, ◌<◌, ◌≤◌, take, get_or};
-ghost use Rattle.network.specs.Network.{nth, most_edges, most_moved};
-ghost use Rattle.paths.specs.Peel.{path_in_row, collected, order_of, RowFits, PathTable, Spotted, Shifted, Belongs, Collected};
+ghost use Rattle.std.specs.Prelude.{◌≡◌, ℕ, ◌+◌, ◌<◌, ◌≤◌, length, take};
+ghost use Rattle.network.specs.Network.{most_edges, most_moved};
+ghost use Rattle.reads.specs.ReadTable.{row_length};
+ghost use Rattle.paths.specs.Peel.{RowFits, vertices_of, weighted_of, path_at, PathTable, Belongs, Spotted, Collected};
 
 use network::EDGES;
 use reads::ROW;
+use std::cmp::Ordering;
 
-// A row of the table: the one that holds a path, or else the one where it belongs.
+// A collected path: its weight, and its vertices, which are the first `size` numbers of its row.
+#[derive(Clone, Copy)]
+pub struct Path {
+    pub weight: u64,
+    pub size: usize,
+    pub row: [u8; ROW],
+}
+
+impl Path {
+    // The path with these vertices.
+    fn new(vertices: &[u8], weight: u64) -> Path
+        requires { length vertices.now ≤ row_length }
+        ensures weight { result.weight ≡ weight }
+        ensures vertices { vertices_of result ≡ vertices.now }
+        ensures fits { RowFits result.row result.size }
+    {
+        let mut row = [0u8; ROW];
+        row[..vertices.len()].copy_from_slice(vertices);
+        Path {
+            weight,
+            size: vertices.len(),
+            row,
+        }
+    }
+
+    // Its vertices.
+    pub fn vertices(&self) -> &[u8]
+        requires { RowFits self.now.row self.now.size }
+        ensures { result.now ≡ vertices_of self.now }
+    {
+        &self.row[..self.size]
+    }
+}
+
+// The paths that were collected: strictly ascending, each with its weight, in the first `count` rows.
 #[derive(Drop)]
-struct Spot {
-    at: usize,
-    same: bool,
+pub struct Paths {
+    pub rows: [Path; EDGES],
+    pub count: usize,
 }
 
-// Where the path in a row stands beside the path in row i of the table: 0 before it, 1 where they are the same, 2 after it.
-fn order(
-    row: &[u8; ROW],
-    len: usize,
-    paths: &[[u8; ROW]; EDGES],
-    sizes: &[usize; EDGES],
-    i: usize,
-) -> usize
-    requires row { RowFits row.now len }
-    requires other { (i < most_edges) × RowFits (get_or paths.now i []) (nth sizes.now i) }
-    ensures { result ≡ order_of (take len row.now) (path_in_row paths.now sizes.now i) }
-{
-    let size = sizes[i];
-    let mut k: usize = 0;
-    while k < len {
-        if k >= size {
-            return 2;
+impl Paths {
+    // No path is collected yet.
+    pub fn empty() -> Paths
+        ensures table { PathTable result }
+        ensures none { result.count ≡ 0 }
+    {
+        let none = Path {
+            weight: 0,
+            size: 0,
+            row: [0; ROW],
+        };
+        Paths {
+            rows: [none; EDGES],
+            count: 0,
         }
-        if row[k] < paths[i][k] {
-            return 0;
-        }
-        if paths[i][k] < row[k] {
-            return 2;
-        }
-        k += 1;
     }
-    if len < size {
-        return 0;
-    }
-    1
-}
 
-// The row that holds the path, or else the row where it belongs.
-fn find(
-    row: &[u8; ROW],
-    len: usize,
-    paths: &[[u8; ROW]; EDGES],
-    sizes: &[usize; EDGES],
-    weights: &[u64; EDGES],
-    count: usize,
-) -> Spot
-    requires row { RowFits row.now len }
-    requires table { PathTable paths.now sizes.now weights.now count }
-    ensures { Spotted paths.now sizes.now count (take len row.now) result }
-{
-    let mut i = count;
-    while i > 0 {
-        let o = order(row, len, paths, sizes, i - 1);
-        if o == 1 {
-            return Spot {
-                at: i - 1,
-                same: true,
-            };
+    // The paths in order.
+    pub fn as_slice(&self) -> &[Path]
+        requires { self.now.count ≤ most_edges }
+        ensures { result.now ≡ take self.now.count self.now.rows }
+    {
+        &self.rows[..self.count]
+    }
+
+    // The row that holds the path, or else, as an error, the row where it belongs.
+    fn find(&self, vertices: &[u8]) -> Result<usize, usize>
+        requires { PathTable self.now }
+        ensures { Spotted self.now vertices.now result }
+    {
+        for i in (0..self.count).rev() {
+            match vertices.cmp(self.rows[i].vertices()) {
+                Ordering::Less => {}
+                Ordering::Equal => return Ok(i),
+                Ordering::Greater => return Err(i + 1),
+            }
         }
-        if o == 2 {
-            return Spot { at: i, same: false };
+        Err(0)
+    }
+
+    // Puts the path into row i, where it belongs: what stands there and behind moves one place on.
+    fn put(&mut self, i: usize, path: Path)
+        requires table { PathTable self.old × (self.old.count < most_edges) }
+        requires fits { RowFits path.row path.size }
+        requires belongs { Belongs self.old (vertices_of path) i }
+        ensures { Collected (weighted_of path) self.old self.new }
+    {
+        self.rows.copy_within(i..self.count, i + 1);
+        self.rows[i] = path;
+        self.count += 1;
+    }
+
+    // Adds a weighted path to the table, which stays in order: as a new path, or to the weight of the same path.
+    pub fn insert(&mut self, vertices: &[u8], weight: u64)
+        requires short { length vertices.now ≤ row_length }
+        requires table { PathTable self.old }
+        requires room { (self.old.count < most_edges) × ((k : ℕ) → k < self.old.count → (path_at self.old k).weight + weight ≤ most_moved) }
+        ensures { Collected (record { weight = weight; path = vertices.now }) self.old self.new }
+    {
+        match self.find(vertices) {
+            Ok(i) => self.rows[i].weight += weight,
+            Err(i) => self.put(i, Path::new(vertices, weight)),
         }
-        i -= 1;
     }
-    Spot { at: i, same: false }
-}
-
-// Moves the rows from i on one place on.
-fn make_room(
-    paths: &mut [[u8; ROW]; EDGES],
-    sizes: &mut [usize; EDGES],
-    weights: &mut [u64; EDGES],
-    count: usize,
-    i: usize,
-)
-    requires table { PathTable paths.old sizes.old weights.old count }
-    requires inside { (i ≤ count) × (count < most_edges) }
-    ensures rows { Shifted [] paths.old paths.new i count }
-    ensures lens { Shifted 0 sizes.old sizes.new i count }
-    ensures weights { Shifted 0 weights.old weights.new i count }
-{
-    let mut j = count;
-    while j > i {
-        let row = paths[j - 1];
-        paths[j] = row;
-        sizes[j] = sizes[j - 1];
-        weights[j] = weights[j - 1];
-        j -= 1;
-    }
-}
-
-// Puts the path into row i, where it belongs.
-fn put(
-    row: &[u8; ROW],
-    len: usize,
-    weight: u64,
-    paths: &mut [[u8; ROW]; EDGES],
-    sizes: &mut [usize; EDGES],
-    weights: &mut [u64; EDGES],
-    count: usize,
-    i: usize,
-) -> usize
-    requires row { RowFits row.now len }
-    requires table { PathTable paths.old sizes.old weights.old count }
-    requires belongs { Belongs paths.old sizes.old count (take len row.now) i }
-    ensures { Collected (record { weight = weight; path = take len row.now }) (collected paths.old sizes.old weights.old count) count paths.new sizes.new weights.new result }
-{
-    make_room(paths, sizes, weights, count, i);
-    let copy = *row;
-    paths[i] = copy;
-    sizes[i] = len;
-    weights[i] = weight;
-    count + 1
-}
-
-// Adds a weighted path to the table, which stays in order: as a new path, or to the weight of the same path.
-pub fn insert(
-    row: &[u8; ROW],
-    len: usize,
-    weight: u64,
-    paths: &mut [[u8; ROW]; EDGES],
-    sizes: &mut [usize; EDGES],
-    weights: &mut [u64; EDGES],
-    count: usize,
-) -> usize
-    requires row { RowFits row.now len }
-    requires table { PathTable paths.old sizes.old weights.old count }
-    requires room { (count < most_edges) × ((k : ℕ) → k < count → nth weights.old k + weight ≤ most_moved) }
-    ensures { Collected (record { weight = weight; path = take len row.now }) (collected paths.old sizes.old weights.old count) count paths.new sizes.new weights.new result }
-{
-    let spot = find(row, len, paths, sizes, weights, count);
-    let i = spot.at;
-    if spot.same {
-        weights[i] += weight;
-        return count;
-    }
-    put(row, len, weight, paths, sizes, weights, count, i)
 }

@@ -1,5 +1,5 @@
 // Numbers cut to their range, so that an index is in range whatever the array held.
-ghost use Rattle.std.specs.Prelude.{◌<◌};
+ghost use Rattle.std.specs.Prelude.{◌<◌, IfSome};
 ghost use Rattle.pivot.specs.Sizes.{most_nodes, most_edges};
 
 use crate::{EDGES, NODES};
@@ -18,11 +18,12 @@ pub fn edge(number: usize) -> usize
     if number < EDGES { number } else { 0 }
 }
 
-// A number as the tree's arrays hold it, and back.
-pub fn narrow(number: usize) -> u16 {
-    (number % 65_536) as u16
-}
-
-pub fn wide(number: u16) -> usize {
-    number as usize
+// The node that a place in the tree's lists names: none for 0, since the root hangs on no node.
+pub fn hung(number: u16) -> Option<usize>
+    ensures { IfSome result (λ u. u < most_nodes) }
+{
+    match node(usize::from(number)) {
+        0 => None,
+        u => Some(u),
+    }
 }

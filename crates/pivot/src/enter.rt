@@ -1,78 +1,53 @@
 // The edge that enters the tree: one whose slack is below 0, so that going over it costs less than the tree does.
-ghost use Rattle.std.specs.Prelude.{◌<◌, ◌≤◌};
+ghost use Rattle.std.specs.Prelude.{◌<◌};
 
 use crate::cut::node;
-use crate::{EDGES, NODES};
-use std::num::{wrapping_add_u64, wrapping_add_usize, wrapping_sub_u64};
+use crate::{EDGES, NODES, Network};
 
-// An edge, how far its slack is below 0 (0: there is no such edge), and where the next search begins.
-#[derive(Drop)]
+// An edge, how far its slack is below 0, and where the next search begins.
+#[derive(Clone, Copy, Debug, PartialEq, Eq)]
 pub struct Entry {
     pub edge: usize,
     pub gain: u64,
     pub next: usize,
 }
 
-// Of the best so far and edge e, over which a node can be reached at cost `ahead` where its mark is `mark`, the one with the lower slack.
-fn better(best: Entry, e: usize, ahead: u64, mark: u64) -> Entry {
-    if wrapping_add_u64(ahead, best.gain) < mark {
-        Entry {
-            edge: e,
-            gain: wrapping_sub_u64(mark, ahead),
-            next: best.next,
-        }
-    } else {
-        best
-    }
-}
-
-fn within(number: usize, most: usize) -> usize
-    ensures { result ≤ most }
-{
-    if number < most { number } else { most }
-}
-
-// The edge with the lowest slack in the block of edges from `first` on, up to `stop`.
+// The edge with the lowest slack in the block of edges from `first` on, up to `stop`; none where no slack there is below 0.
 fn best_between(
+    network: &Network,
+    mark: &[u64; NODES],
     first: usize,
     stop: usize,
-    from: &[usize; EDGES],
-    to: &[usize; EDGES],
-    cost: &[u64; EDGES],
-    mark: &[u64; NODES],
-) -> Entry {
-    let mut best = Entry {
-        edge: 0,
-        gain: 0,
+) -> Option<Entry> {
+    let mut best = 0;
+    let mut gain = 0;
+    for e in first..stop.min(EDGES) {
+        let ahead = network.cost[e].wrapping_add(mark[node(network.from[e])]);
+        let there = mark[node(network.to[e])];
+        if ahead.wrapping_add(gain) < there {
+            best = e;
+            gain = there.wrapping_sub(ahead);
+        }
+    }
+    if gain == 0 {
+        return None;
+    }
+    Some(Entry {
+        edge: best,
+        gain,
         next: stop,
-    };
-    let last = within(stop, EDGES);
-    let mut e = first;
-    while e < last {
-        let ahead = wrapping_add_u64(cost[e], mark[node(from[e])]);
-        best = better(best, e, ahead, mark[node(to[e])]);
-        e += 1;
-    }
-    best
+    })
 }
 
-// About the square root of the number of edges: a block has one edge more.
+// How long a block is, less one: the greatest number that, multiplied by the next, is no more than the number of edges. That is about its square root.
 pub fn block_of(edges: usize) -> usize {
-    let mut left = edges;
-    let mut step: usize = 1;
-    while left > step {
-        left = left - step - 1;
-        step = wrapping_add_usize(step, 2);
+    let few = edges.min(EDGES);
+    let root = few.isqrt();
+    if few < root * root + root {
+        root - 1
+    } else {
+        root
     }
-    step / 2
-}
-
-// Where a block ends that begins at `first`.
-fn block_end(first: usize, block: usize, edges: usize) -> usize {
-    within(
-        wrapping_add_usize(wrapping_add_usize(first, block), 1),
-        edges,
-    )
 }
 
 // What is left to look at behind a block.
@@ -90,28 +65,23 @@ fn again(stop: usize, edges: usize) -> usize {
 
 // Looks at block after block from `start` on, once round, and takes the lowest slack of the first block that has one below 0.
 pub fn best_entry(
-    edges: usize,
+    network: &Network,
+    mark: &[u64; NODES],
     block: usize,
     start: usize,
-    from: &[usize; EDGES],
-    to: &[usize; EDGES],
-    cost: &[u64; EDGES],
-    mark: &[u64; NODES],
-) -> Entry {
+) -> Option<Entry> {
+    let edges = network.edges;
     let mut first = again(start, edges);
     let mut left = edges;
+    // Kept: what may not change needs it: the wrong program `search_without_end` turns `rest`, whose promise only the measure of this loop asks for.
     while left > 0 {
-        let stop = block_end(first, block, edges);
-        let best = best_between(first, stop, from, to, cost, mark);
-        if best.gain > 0 {
-            return best;
+        let stop = first.wrapping_add(block).wrapping_add(1).min(edges);
+        let entry = best_between(network, mark, first, stop);
+        if entry.is_some() {
+            return entry;
         }
         first = again(stop, edges);
         left = rest(left, block);
     }
-    Entry {
-        edge: 0,
-        gain: 0,
-        next: 0,
-    }
+    None
 }

@@ -13,25 +13,28 @@ mod enter;
 mod tree;
 // The edge that leaves the tree, and the turn of the part that it cuts off.
 mod turn;
+// What travels together: a network, its chains of edges, what has to move in it, and a flow.
+mod types;
 // The cheapest ways between the root and each node.
 mod ways;
 
-ghost use Rattle.pivot.specs.Sizes.{PerNode, PerEdge};
+ghost use Rattle.std.specs.Prelude.{◌<◌, IfSome};
+ghost use Rattle.pivot.specs.Sizes.{most_nodes, PerNode, PerEdge};
 
-use crate::cut::{edge, narrow, node};
-use crate::enter::{best_entry, block_of};
-use crate::tree::{hang_all, list_all, set_mark};
-use crate::turn::{Hold, NO_LIMIT, find_least, move_part, move_round, turn_part};
-use crate::ways::{FAR, load_all, ways_from_root, ways_to_root};
-use std::num::{wrapping_add_u64, wrapping_sub_u64};
+use crate::cut::{edge, node};
+use crate::enter::{Entry, best_entry, block_of};
+use crate::tree::Tree;
+use crate::turn::Hold;
+pub use crate::types::{Balance, Chains, Flow, Network};
+use crate::ways::{Ways, load_all};
 
 // How many nodes and edges a network can have.
 pub const NODES: usize = 129;
 
 pub const EDGES: usize = 464;
 
-// The end of the entering edge that moves with its part to the other end (the root: none does), and how the marks of the part change.
-#[derive(Drop)]
+// The end of the entering edge that moves with its part to the other end, and how the marks of the part change.
+#[derive(Clone, Copy, Debug, PartialEq, Eq)]
 struct Move {
     node: usize,
     onto: usize,
@@ -39,12 +42,15 @@ struct Move {
 }
 
 // Where the edge that leaves is ahead, the entering edge's end moves, and its part's marks fall by the gain; else its beginning does, and they rise.
-fn mover(u: usize, v: usize, ahead: bool, gain: u64) -> Move {
+fn mover(u: usize, v: usize, ahead: bool, gain: u64) -> Move
+    requires { (u < most_nodes) × (v < most_nodes) }
+    ensures { (result.node < most_nodes) × (result.onto < most_nodes) }
+{
     if ahead {
         Move {
             node: v,
             onto: u,
-            change: wrapping_sub_u64(0, gain),
+            change: gain.wrapping_neg(),
         }
     } else {
         Move {
@@ -55,83 +61,41 @@ fn mover(u: usize, v: usize, ahead: bool, gain: u64) -> Move {
     }
 }
 
-// Edge e enters the tree, what can be moved round goes round, and an edge with nothing left on it leaves the tree. No part moves where the way round has no
-// limit.
-fn exchange(
-    e: usize,
-    gain: u64,
-    from: &[usize; EDGES],
-    to: &[usize; EDGES],
-    by: &mut [u16; NODES],
-    up: &mut [bool; NODES],
-    flow: &mut [u64; NODES],
-    parent: &mut [u16; NODES],
-    depth: &[u16; NODES],
-    child: &mut [u16; NODES],
-    after: &mut [u16; NODES],
-    before: &mut [u16; NODES],
-) -> Move {
-    let u = node(from[edge(e)]);
-    let v = node(to[edge(e)]);
-    let found = find_least(u, v, parent, depth, up, flow);
-    if found.least == NO_LIMIT {
-        return Move {
-            node: 0,
-            onto: 0,
-            change: 0,
-        };
-    }
-    move_round(u, v, found.back, found.least, parent, up, flow);
-    let part = mover(u, v, found.ahead, gain);
+// An edge enters the tree, what can be moved round goes round, and an edge with nothing left on it leaves the tree. No part moves where the way round has
+// no limit.
+fn exchange(network: &Network, entry: Entry, tree: &mut Tree) -> Option<Move>
+    ensures { IfSome result (λ part. part.node < most_nodes) }
+{
+    let e = edge(entry.edge);
+    let u = node(network.from[e]);
+    let v = node(network.to[e]);
+    let climb = tree.find_least(u, v);
+    let loss = climb.least?;
+    tree.move_round(u, v, climb.back, loss.flow);
+    let part = mover(u, v, loss.ahead, entry.gain);
     let hold = Hold {
         parent: part.onto,
-        by: narrow(e),
-        up: !found.ahead,
-        flow: found.least,
+        by: e as u16,
+        up: !loss.ahead,
+        flow: loss.flow,
     };
-    turn_part(
-        part.node, found.cut, hold, parent, by, up, flow, child, after, before,
-    );
-    part
+    tree.turn_part(part.node, loss.cut, hold);
+    Some(part)
 }
 
 // Lets edges with a slack below 0 enter the tree until there is none. False where `fuel` of them are not enough.
-fn improve(
-    edges: usize,
-    fuel: usize,
-    from: &[usize; EDGES],
-    to: &[usize; EDGES],
-    cost: &[u64; EDGES],
-    by: &mut [u16; NODES],
-    up: &mut [bool; NODES],
-    flow: &mut [u64; NODES],
-    parent: &mut [u16; NODES],
-    depth: &mut [u16; NODES],
-    child: &mut [u16; NODES],
-    after: &mut [u16; NODES],
-    before: &mut [u16; NODES],
-    mark: &mut [u64; NODES],
-) -> bool
-    requires { PerNode mark.old }
-    ensures { PerNode mark.new }
-{
-    let block = block_of(edges);
-    let mut start: usize = 0;
-    let mut left = fuel;
-    while left > 0 {
-        let entry = best_entry(edges, block, start, from, to, cost, mark);
-        if entry.gain == 0 {
+fn improve(network: &Network, fuel: usize, tree: &mut Tree, mark: &mut [u64; NODES]) -> bool {
+    let block = block_of(network.edges);
+    let mut start = 0;
+    for _ in 0..fuel {
+        let Some(entry) = best_entry(network, mark, block, start) else {
             return true;
-        }
-        let part = exchange(
-            entry.edge, entry.gain, from, to, by, up, flow, parent, depth, child, after, before,
-        );
-        if part.node == 0 {
+        };
+        let Some(part) = exchange(network, entry, tree) else {
             return false;
-        }
-        move_part(part.node, part.change, parent, child, after, depth, mark);
+        };
+        tree.move_part(part.node, part.change, mark);
         start = entry.next;
-        left -= 1;
     }
     false
 }
@@ -139,101 +103,50 @@ fn improve(
 // Marks are held with this added while the tree is improved, so that none falls below 0.
 const LIFT: u64 = 1_125_899_906_842_624;
 
-fn lower_marks(nodes: usize, mark: &mut [u64; NODES])
-    requires { PerNode mark.old }
-    ensures { PerNode mark.new }
-{
-    let mut u: usize = 0;
-    while u < nodes {
-        set_mark(u, wrapping_sub_u64(mark[node(u)], LIFT), mark);
-        u += 1;
-    }
-}
-
 // Finds the best tree, from the one in which every node hangs on the root by its shortcut.
 fn best_tree(
-    nodes: usize,
-    edges: usize,
+    network: &Network,
     fuel: usize,
-    from: &[usize; EDGES],
-    to: &[usize; EDGES],
-    cost: &[u64; EDGES],
-    arrive: &[u64; NODES],
-    leave: &[u64; NODES],
-    surplus: &[u64; NODES],
-    deficit: &[u64; NODES],
-    by: &mut [u16; NODES],
-    up: &mut [bool; NODES],
-    flow: &mut [u64; NODES],
+    from_root: &Ways,
+    to_root: &Ways,
+    balance: &Balance,
+    tree: &mut Tree,
     mark: &mut [u64; NODES],
-) -> bool
-    requires { PerNode mark.old }
-    ensures { PerNode mark.new }
-{
-    set_mark(0, wrapping_add_u64(mark[0], LIFT), mark);
-    hang_all(nodes, arrive, leave, surplus, deficit, up, flow, mark);
-    let mut child = [0u16; NODES];
-    let mut after = [0u16; NODES];
-    let mut before = [0u16; NODES];
-    list_all(nodes, &mut child, &mut after, &mut before);
-    let mut parent = [0u16; NODES];
-    let mut depth = [1u16; NODES];
-    depth[0] = 0;
-    let best = improve(
-        edges,
-        fuel,
-        from,
-        to,
-        cost,
-        by,
-        up,
-        flow,
-        &mut parent,
-        &mut depth,
-        &mut child,
-        &mut after,
-        &mut before,
-        mark,
-    );
-    lower_marks(nodes, mark);
+) -> bool {
+    mark[0] = mark[0].wrapping_add(LIFT);
+    tree.hang_all(network.nodes, balance, from_root, to_root, mark);
+    let best = improve(network, fuel, tree, mark);
+    for raised in mark.iter_mut().take(network.nodes) {
+        *raised = raised.wrapping_sub(LIFT);
+    }
     best
 }
 
-// Guesses loads and marks that carry every surplus to the deficits at the lowest cost. The root is node 0, its mark stays, and the loads are 0 before;
-// `head` and `next` are the chains of the edges that leave each node. True where the guess was brought to its end: where `fuel` edges at the most entered
-// the tree.
+// Guesses loads and marks that carry every surplus to the deficits at the lowest cost. The root is node 0, its mark stays, and the loads are 0 before; the
+// chains are those of the edges that leave each node. True where the guess was brought to its end: where `fuel` edges at the most entered the tree.
 pub fn guess(
-    nodes: usize,
-    edges: usize,
+    network: &Network,
     fuel: usize,
-    from: &[usize; EDGES],
-    to: &[usize; EDGES],
-    cost: &[u64; EDGES],
-    head: &[usize; NODES],
-    next: &[usize; EDGES],
-    surplus: &[u64; NODES],
-    deficit: &[u64; NODES],
-    load: &mut [u64; EDGES],
-    mark: &mut [u64; NODES],
+    chains: &Chains,
+    balance: &Balance,
+    flow: &mut Flow,
 ) -> bool
-    requires { PerEdge load.old × PerNode mark.old }
-    ensures { PerEdge load.new × PerNode mark.new }
+    ensures { PerEdge flow.new.load × PerNode flow.new.mark }
 {
-    let mut arrive = [FAR; NODES];
-    let mut last = [0u16; NODES];
-    ways_from_root(nodes, to, cost, head, next, &mut arrive, &mut last);
-    let mut leave = [FAR; NODES];
-    let mut first = [0u16; NODES];
-    ways_to_root(nodes, to, cost, head, next, &mut leave, &mut first);
-    let mut by = [narrow(EDGES); NODES];
-    let mut up = [false; NODES];
-    let mut flow = [0u64; NODES];
-    if best_tree(
-        nodes, edges, fuel, from, to, cost, &arrive, &leave, surplus, deficit, &mut by, &mut up,
-        &mut flow, mark,
-    ) {
-        load_all(nodes, from, to, &last, &first, &by, &up, &flow, load);
-        return true;
+    let from_root = Ways::from_root(network, chains);
+    let to_root = Ways::to_root(network, chains);
+    let mut tree = Tree::new();
+    let best = best_tree(
+        network,
+        fuel,
+        &from_root,
+        &to_root,
+        balance,
+        &mut tree,
+        &mut flow.mark,
+    );
+    if best {
+        load_all(network, &from_root, &to_root, &tree, &mut flow.load);
     }
-    false
+    best
 }

@@ -1,123 +1,114 @@
 // The tree that holds the flow. Each node but the root hangs on its `parent` by an edge: `by` is the edge's number (EDGES for the node's shortcut, a way
 // between the root and it at the cheapest ways' cost), `up` tells that it goes from the node to its parent, `flow` is what lies on it. The nodes that hang
-// on one node stand in a list: `child` is the first, `after` and `before` lead on and back, and 0 is no node, since the root hangs on none.
-ghost use Rattle.pivot.specs.Sizes.{PerNode};
+// on one node stand in a list: `child` is the first, `after` and `before` lead on and back, and 0 is no node, since the root hangs on none. `depth` is how
+// many edges there are up to the root.
+ghost use Rattle.std.specs.Prelude.{◌<◌};
+ghost use Rattle.pivot.specs.Sizes.{most_nodes};
 
-use crate::NODES;
-use crate::cut::{narrow, node, wide};
-use std::num::{wrapping_add_u64, wrapping_sub_u64};
+use crate::cut::{hung, node};
+use crate::ways::Ways;
+use crate::{Balance, EDGES, NODES};
 
-// Gives u a mark. Only here marks are stored, so that it is shown once that their array stays as long as it is.
-pub fn set_mark(u: usize, value: u64, mark: &mut [u64; NODES])
-    requires { PerNode mark.old }
-    ensures { PerNode mark.new }
-{
-    mark[node(u)] = value;
+#[derive(Drop)]
+pub struct Tree {
+    pub parent: [u16; NODES],
+    pub by: [u16; NODES],
+    pub up: [bool; NODES],
+    pub flow: [u64; NODES],
+    pub child: [u16; NODES],
+    pub after: [u16; NODES],
+    pub before: [u16; NODES],
+    pub depth: [u16; NODES],
 }
 
-// Hangs u on the root by its shortcut: from the root where it has a deficit, and else to the root. What has to move lies on it, and the marks make it tight.
-fn hang(
-    u: usize,
-    arrive: u64,
-    leave: u64,
-    surplus: u64,
-    deficit: u64,
-    up: &mut [bool; NODES],
-    flow: &mut [u64; NODES],
-    mark: &mut [u64; NODES],
-)
-    requires { PerNode mark.old }
-    ensures { PerNode mark.new }
-{
-    let here = node(u);
-    if deficit > 0 {
-        up[here] = false;
-        flow[here] = deficit;
-        set_mark(u, wrapping_add_u64(mark[0], arrive), mark);
-    } else {
-        up[here] = true;
-        flow[here] = surplus;
-        set_mark(u, wrapping_sub_u64(mark[0], leave), mark);
+impl Tree {
+    // Each node is on the root, by its shortcut, and in no list yet.
+    pub fn new() -> Tree {
+        let mut depth = [1; NODES];
+        depth[0] = 0;
+        Tree {
+            parent: [0; NODES],
+            by: [EDGES as u16; NODES],
+            up: [false; NODES],
+            flow: [0; NODES],
+            child: [0; NODES],
+            after: [0; NODES],
+            before: [0; NODES],
+            depth,
+        }
     }
-}
 
-// Hangs all nodes on the root. An edge without a flow goes up, so every node can send on to the root: as long as this is kept, no tree comes twice.
-pub fn hang_all(
-    nodes: usize,
-    arrive: &[u64; NODES],
-    leave: &[u64; NODES],
-    surplus: &[u64; NODES],
-    deficit: &[u64; NODES],
-    up: &mut [bool; NODES],
-    flow: &mut [u64; NODES],
-    mark: &mut [u64; NODES],
-)
-    requires { PerNode mark.old }
-    ensures { PerNode mark.new }
-{
-    let mut u: usize = 1;
-    while u < nodes {
-        let here = node(u);
-        hang(
-            u,
-            arrive[here],
-            leave[here],
-            surplus[here],
-            deficit[here],
-            up,
-            flow,
-            mark,
-        );
-        u += 1;
+    // The node that u hangs on.
+    pub fn above(&self, u: usize) -> usize
+        requires { u < most_nodes }
+        ensures { result < most_nodes }
+    {
+        node(usize::from(self.parent[u]))
     }
-}
 
-// Puts all nodes into the list of those that hang on the root.
-pub fn list_all(
-    nodes: usize,
-    child: &mut [u16; NODES],
-    after: &mut [u16; NODES],
-    before: &mut [u16; NODES],
-) {
-    let mut u = nodes;
-    while u > 1 {
-        u -= 1;
-        link(u, 0, child, after, before);
+    // Hangs u on the root by its shortcut: from the root where it has a deficit, and else to the root. What has to move lies on it, and the marks make it
+    // tight.
+    fn hang(
+        &mut self,
+        u: usize,
+        balance: &Balance,
+        from_root: &Ways,
+        to_root: &Ways,
+        mark: &mut [u64; NODES],
+    )
+        requires { u < most_nodes }
+    {
+        if balance.deficit[u] > 0 {
+            self.up[u] = false;
+            self.flow[u] = balance.deficit[u];
+            mark[u] = mark[0].wrapping_add(from_root.cost[u]);
+        } else {
+            self.up[u] = true;
+            self.flow[u] = balance.surplus[u];
+            mark[u] = mark[0].wrapping_sub(to_root.cost[u]);
+        }
     }
-}
 
-// Puts w first into the list of the nodes that hang on p.
-pub fn link(
-    w: usize,
-    p: usize,
-    child: &mut [u16; NODES],
-    after: &mut [u16; NODES],
-    before: &mut [u16; NODES],
-) {
-    let here = node(w);
-    let top = node(p);
-    let second = node(wide(child[top]));
-    after[here] = child[top];
-    before[here] = 0;
-    before[second] = narrow(w);
-    child[top] = narrow(w);
-}
+    // Hangs all nodes on the root. An edge without a flow goes up, so every node can send on to the root: as long as this is kept, no tree comes twice.
+    pub fn hang_all(
+        &mut self,
+        nodes: usize,
+        balance: &Balance,
+        from_root: &Ways,
+        to_root: &Ways,
+        mark: &mut [u64; NODES],
+    ) {
+        for u in (1..nodes.min(NODES)).rev() {
+            self.hang(u, balance, from_root, to_root, mark);
+            self.link(u, 0);
+        }
+    }
 
-// Takes w out of the list of the nodes that hang on p.
-pub fn unlink(
-    w: usize,
-    p: usize,
-    child: &mut [u16; NODES],
-    after: &mut [u16; NODES],
-    before: &mut [u16; NODES],
-) {
-    let here = node(w);
-    let one = before[here];
-    let other = after[here];
-    before[node(wide(other))] = one;
-    if one == 0 {
-        child[node(p)] = other;
-    } else {
-        after[node(wide(one))] = other;
+    // Puts w first into the list of the nodes that hang on p.
+    pub fn link(&mut self, w: usize, p: usize)
+        requires { (w < most_nodes) × (p < most_nodes) }
+    {
+        let second = self.child[p];
+        self.after[w] = second;
+        self.before[w] = 0;
+        if let Some(next) = hung(second) {
+            self.before[next] = w as u16;
+        }
+        self.child[p] = w as u16;
+    }
+
+    // Takes w out of the list of the nodes that hang on p.
+    pub fn unlink(&mut self, w: usize, p: usize)
+        requires { (w < most_nodes) × (p < most_nodes) }
+    {
+        let one = self.before[w];
+        let other = self.after[w];
+        if let Some(next) = hung(other) {
+            self.before[next] = one;
+        }
+        match hung(one) {
+            Some(previous) => self.after[previous] = other,
+            None => self.child[p] = other,
+        }
     }
 }

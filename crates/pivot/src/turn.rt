@@ -1,168 +1,29 @@
 // The edge that leaves the tree, and the turn of the part that it cuts off.
-ghost use Rattle.pivot.specs.Sizes.{PerNode};
+ghost use Rattle.std.specs.Prelude.{◌≡◌, ◌<◌, IfSome};
+ghost use Rattle.pivot.specs.Sizes.{most_nodes};
 
 use crate::NODES;
-use crate::cut::{narrow, node, wide};
-use crate::tree::{link, set_mark, unlink};
-use std::num::{wrapping_add_u16, wrapping_add_u64, wrapping_sub_u64};
+use crate::cut::{hung, node};
+use crate::tree::Tree;
 
-// More than any flow.
-pub const NO_LIMIT: u64 = 18_446_744_073_709_551_615;
-
-// The climb from both ends of the entering edge to where they meet: where each side is, and the least flow so far on an edge that loses, with the node that
-// hangs by it and whether that is on the side of the edge's end (`ahead`).
-#[derive(Drop)]
-pub struct Climb {
-    pub back: usize,
-    pub front: usize,
-    pub least: u64,
+// An edge that loses on the way round: what lies on it, the node that hangs by it, and whether that is on the side of the entering edge's end (`ahead`).
+#[derive(Clone, Copy, Debug, PartialEq, Eq)]
+pub struct Loss {
+    pub flow: u64,
     pub cut: usize,
     pub ahead: bool,
 }
 
-// One step on the side that the edge comes from. There an edge that rises loses; of equal ones the first is taken.
-fn climb_back(climb: Climb, back: usize, parent: usize, up: bool, flow: u64) -> Climb {
-    if up {
-        if flow < climb.least {
-            return Climb {
-                back: parent,
-                front: climb.front,
-                least: flow,
-                cut: back,
-                ahead: false,
-            };
-        }
-    }
-    Climb {
-        back: parent,
-        front: climb.front,
-        least: climb.least,
-        cut: climb.cut,
-        ahead: climb.ahead,
-    }
-}
-
-// One step on the side that the edge goes to. There an edge that falls loses; of equal ones the last is taken. This and the first on the other side keep
-// the tree so that every node can send on to the root.
-fn climb_front(climb: Climb, front: usize, parent: usize, up: bool, flow: u64) -> Climb {
-    if !up {
-        if flow <= climb.least {
-            return Climb {
-                back: climb.back,
-                front: parent,
-                least: flow,
-                cut: front,
-                ahead: true,
-            };
-        }
-    }
-    Climb {
-        back: climb.back,
-        front: parent,
-        least: climb.least,
-        cut: climb.cut,
-        ahead: climb.ahead,
-    }
-}
-
-// One step on the side that is deeper.
-fn climb_deeper(
-    climb: Climb,
-    parent: &[u16; NODES],
-    depth: &[u16; NODES],
-    up: &[bool; NODES],
-    flow: &[u64; NODES],
-) -> Climb {
-    let a = node(climb.back);
-    let b = node(climb.front);
-    if depth[a] < depth[b] {
-        climb_front(climb, b, wide(parent[b]), up[b], flow[b])
-    } else {
-        climb_back(climb, a, wide(parent[a]), up[a], flow[a])
-    }
-}
-
-// The edge that leaves: of those that lose on the way round, one with the least flow, which is `NO_LIMIT` where none loses; and where the sides meet.
-pub fn find_least(
-    u: usize,
-    v: usize,
-    parent: &[u16; NODES],
-    depth: &[u16; NODES],
-    up: &[bool; NODES],
-    flow: &[u64; NODES],
-) -> Climb {
-    let mut climb = Climb {
-        back: u,
-        front: v,
-        least: NO_LIMIT,
-        cut: 0,
-        ahead: false,
-    };
-    let mut left = 2 * NODES;
-    while left > 0 {
-        if climb.back == climb.front {
-            return climb;
-        }
-        climb = climb_deeper(climb, parent, depth, up, flow);
-        left -= 1;
-    }
-    climb
-}
-
-// What lies on a tree's edge once the amount has gone round: an edge gains where it rises as `rising` says.
-fn moved(flow: u64, up: bool, rising: bool, amount: u64) -> u64 {
-    if up {
-        if rising {
-            return wrapping_add_u64(flow, amount);
-        }
-        return wrapping_sub_u64(flow, amount);
-    }
-    if rising {
-        return wrapping_sub_u64(flow, amount);
-    }
-    wrapping_add_u64(flow, amount)
-}
-
-// Moves the amount between w and the node `top` above it: upwards where `rising`, and else downwards.
-fn move_side(
-    w: usize,
-    top: usize,
-    rising: bool,
-    amount: u64,
-    parent: &[u16; NODES],
-    up: &[bool; NODES],
-    flow: &mut [u64; NODES],
-) {
-    let mut here = node(w);
-    let mut left = NODES;
-    while left > 0 {
-        if here == top {
-            return;
-        }
-        flow[here] = moved(flow[here], up[here], rising, amount);
-        here = node(wide(parent[here]));
-        left -= 1;
-    }
-}
-
-// Moves the amount round, over the entering edge from u to v and in the tree from v up to `top` and down to u again.
-pub fn move_round(
-    u: usize,
-    v: usize,
-    top: usize,
-    amount: u64,
-    parent: &[u16; NODES],
-    up: &[bool; NODES],
-    flow: &mut [u64; NODES],
-) {
-    if amount > 0 {
-        move_side(u, top, false, amount, parent, up, flow);
-        move_side(v, top, true, amount, parent, up, flow);
-    }
+// The climb from both ends of the entering edge to where they meet: where each side is, and the edge with the least flow so far of those that lose.
+#[derive(Clone, Copy, Debug, PartialEq, Eq)]
+pub struct Climb {
+    pub back: usize,
+    pub front: usize,
+    pub least: Option<Loss>,
 }
 
 // How a node hangs: on whom, by which edge, that goes up or not, with how much on it.
-#[derive(Drop)]
+#[derive(Clone, Copy, Debug, PartialEq, Eq)]
 pub struct Hold {
     pub parent: usize,
     pub by: u16,
@@ -170,132 +31,207 @@ pub struct Hold {
     pub flow: u64,
 }
 
-// Hangs w as said, and gives how it hung before, seen from its parent.
-fn hang_anew(
-    w: usize,
-    hold: Hold,
-    by: &mut [u16; NODES],
-    up: &mut [bool; NODES],
-    flow: &mut [u64; NODES],
-) -> Hold {
-    let here = node(w);
-    let old = Hold {
-        parent: w,
-        by: by[here],
-        up: !up[here],
-        flow: flow[here],
-    };
-    by[here] = hold.by;
-    up[here] = hold.up;
-    flow[here] = hold.flow;
-    old
-}
-
-// Turns the way from w up to `last` round: each node on it hangs on the one below, and w as `hold` says.
-pub fn turn_part(
-    w: usize,
-    last: usize,
-    hold: Hold,
-    parent: &mut [u16; NODES],
-    by: &mut [u16; NODES],
-    up: &mut [bool; NODES],
-    flow: &mut [u64; NODES],
-    child: &mut [u16; NODES],
-    after: &mut [u16; NODES],
-    before: &mut [u16; NODES],
-) {
-    let mut here = node(w);
-    let mut hold = hold;
-    let mut left = NODES;
-    while left > 0 {
-        let above = node(wide(parent[here]));
-        let below = hold.parent;
-        unlink(here, above, child, after, before);
-        link(here, below, child, after, before);
-        parent[here] = narrow(below);
-        hold = hang_anew(here, hold, by, up, flow);
-        if here == last {
-            return;
-        }
-        here = above;
-        left -= 1;
+// What lies on a tree's edge once the amount has gone round: an edge gains where it rises as `rising` says.
+fn moved(flow: u64, up: bool, rising: bool, amount: u64) -> u64 {
+    if up == rising {
+        flow.wrapping_add(amount)
+    } else {
+        flow.wrapping_sub(amount)
     }
 }
 
-// The node after one in its list, but for the node at which the part begins: the nodes after that one are not of the part.
-fn beside(here: usize, w: usize, after: usize) -> usize {
-    if here == w { 0 } else { after }
-}
-
-// The walk over the part that was turned: where it is, and how many nodes wait to be visited.
+// The nodes that wait to be visited on a walk over a part of the tree: the last that came is the first that is visited.
 #[derive(Drop)]
-struct Visit {
-    at: usize,
-    waiting: usize,
+struct Waiting {
+    nodes: [u16; NODES],
+    count: usize,
 }
 
-// What is visited next: the first node that hangs on the one at hand (`down`), and else the one after it in its list (`along`), and else the last that
-// waits; the root, which is in no part, where none does.
-fn next_visit(visit: Visit, down: usize, along: usize, stack: &mut [u16; NODES]) -> Visit {
-    let top = node(visit.waiting);
-    if down == 0 {
-        if along == 0 {
-            if top == 0 {
-                return Visit { at: 0, waiting: 0 };
+impl Waiting {
+    fn push(&mut self, u: usize)
+        requires { u < most_nodes }
+    {
+        self.count = node(self.count.wrapping_add(1));
+        self.nodes[self.count] = u as u16;
+    }
+
+    fn pop(&mut self) -> Option<usize>
+        ensures { IfSome result (λ u. u < most_nodes) }
+    {
+        let top = node(self.count);
+        if top == 0 {
+            return None;
+        }
+        self.count = top - 1;
+        hung(self.nodes[top])
+    }
+
+    // What is visited next: the first node that hangs on the one at hand (`down`), and else the one after it in its list (`along`), and else the last
+    // that waits.
+    fn next(&mut self, down: Option<usize>, along: Option<usize>) -> Option<usize>
+        requires { IfSome down (λ u. u < most_nodes) × IfSome along (λ u. u < most_nodes) }
+        ensures { IfSome result (λ u. u < most_nodes) }
+    {
+        match (down, along) {
+            (None, None) => self.pop(),
+            (None, Some(_)) => along,
+            (Some(_), None) => down,
+            (Some(_), Some(u)) => {
+                self.push(u);
+                down
             }
-            return Visit {
-                at: wide(stack[top]),
-                waiting: top - 1,
-            };
         }
-        return Visit {
-            at: along,
-            waiting: top,
-        };
-    }
-    if along == 0 {
-        return Visit {
-            at: down,
-            waiting: top,
-        };
-    }
-    let more = node(top + 1);
-    stack[more] = narrow(along);
-    Visit {
-        at: down,
-        waiting: more,
     }
 }
 
-// Adds a change to the marks of w and of all that hangs below it, and puts their depths right.
-pub fn move_part(
-    w: usize,
-    change: u64,
-    parent: &[u16; NODES],
-    child: &[u16; NODES],
-    after: &[u16; NODES],
-    depth: &mut [u16; NODES],
-    mark: &mut [u64; NODES],
-)
-    requires { PerNode mark.old }
-    ensures { PerNode mark.new }
-{
-    let mut stack = [0u16; NODES];
-    let mut visit = Visit { at: w, waiting: 0 };
-    let mut left = NODES;
-    while left > 0 {
-        let here = node(visit.at);
-        if here == 0 {
-            return;
+impl Tree {
+    // The least of the edges that lose, once the edge that u hangs by is one of the way round: it loses where it rises on the side that the entering edge
+    // comes from, and where it falls on the other side (`ahead`). Of equal ones the first is taken on the one side and the last on the other: this keeps
+    // the tree so that every node can send on to the root.
+    fn lost(&self, u: usize, ahead: bool, least: Option<Loss>) -> Option<Loss>
+        requires { u < most_nodes }
+    {
+        if self.up[u] == ahead {
+            return least;
         }
-        set_mark(here, wrapping_add_u64(mark[here], change), mark);
-        depth[here] = wrapping_add_u16(depth[node(wide(parent[here]))], 1);
-        visit = next_visit(
-            visit,
-            wide(child[here]),
-            beside(here, w, wide(after[here])),
-            &mut stack,
-        );
-        left -= 1;
+        let flow = self.flow[u];
+        match least {
+            Some(loss) if loss.flow < flow || (loss.flow == flow && !ahead) => least,
+            _ => Some(Loss {
+                flow,
+                cut: u,
+                ahead,
+            }),
+        }
+    }
+
+    // One step on the side that is deeper.
+    fn climb_deeper(&self, climb: Climb) -> Climb
+        requires { (climb.back < most_nodes) × (climb.front < most_nodes) }
+        ensures { (result.back < most_nodes) × (result.front < most_nodes) }
+    {
+        let Climb { back, front, least } = climb;
+        if self.depth[back] < self.depth[front] {
+            Climb {
+                back,
+                front: self.above(front),
+                least: self.lost(front, true, least),
+            }
+        } else {
+            Climb {
+                back: self.above(back),
+                front,
+                least: self.lost(back, false, least),
+            }
+        }
+    }
+
+    // The edge that leaves: of those that lose on the way round, one with the least flow, and none where none loses; and where the sides meet.
+    pub fn find_least(&self, u: usize, v: usize) -> Climb
+        requires { (u < most_nodes) × (v < most_nodes) }
+    {
+        let mut climb = Climb {
+            back: u,
+            front: v,
+            least: None,
+        };
+        for _ in 0..2 * NODES {
+            if climb.back == climb.front {
+                return climb;
+            }
+            climb = self.climb_deeper(climb);
+        }
+        climb
+    }
+
+    // Moves the amount between w and the node `top` above it: upwards where `rising`, and else downwards.
+    fn move_side(&mut self, w: usize, top: usize, rising: bool, amount: u64)
+        requires { w < most_nodes }
+    {
+        let mut here = w;
+        for _ in 0..NODES {
+            if here == top {
+                return;
+            }
+            self.flow[here] = moved(self.flow[here], self.up[here], rising, amount);
+            here = self.above(here);
+        }
+    }
+
+    // Moves the amount round, over the entering edge from u to v and in the tree from v up to `top` and down to u again.
+    pub fn move_round(&mut self, u: usize, v: usize, top: usize, amount: u64)
+        requires { (u < most_nodes) × (v < most_nodes) }
+    {
+        if amount > 0 {
+            self.move_side(u, top, false, amount);
+            self.move_side(v, top, true, amount);
+        }
+    }
+
+    // Hangs w as said, and gives how it hung before, seen from its parent.
+    fn hang_anew(&mut self, w: usize, hold: Hold) -> Hold
+        requires { (w < most_nodes) × (hold.parent < most_nodes) }
+        ensures { result.parent ≡ w }
+    {
+        let old = Hold {
+            parent: w,
+            by: self.by[w],
+            up: !self.up[w],
+            flow: self.flow[w],
+        };
+        self.parent[w] = hold.parent as u16;
+        self.by[w] = hold.by;
+        self.up[w] = hold.up;
+        self.flow[w] = hold.flow;
+        old
+    }
+
+    // Turns the way from w up to `last` round: each node on it hangs on the one below, and w as `hold` says.
+    pub fn turn_part(&mut self, w: usize, last: usize, hold: Hold)
+        requires { (w < most_nodes) × (hold.parent < most_nodes) }
+    {
+        let mut here = w;
+        let mut hold = hold;
+        for _ in 0..NODES {
+            let above = self.above(here);
+            self.unlink(here, above);
+            self.link(here, hold.parent);
+            hold = self.hang_anew(here, hold);
+            if here == last {
+                return;
+            }
+            here = above;
+        }
+    }
+
+    // The node after `here` in its list, but for the node w at which the part begins: the nodes after that one are not of the part.
+    fn beside(&self, here: usize, w: usize) -> Option<usize>
+        requires { here < most_nodes }
+        ensures { IfSome result (λ u. u < most_nodes) }
+    {
+        if here == w {
+            None
+        } else {
+            hung(self.after[here])
+        }
+    }
+
+    // Adds a change to the marks of w and of all that hangs below it, and puts their depths right.
+    pub fn move_part(&mut self, w: usize, change: u64, mark: &mut [u64; NODES])
+        requires { w < most_nodes }
+    {
+        let mut waiting = Waiting {
+            nodes: [0; NODES],
+            count: 0,
+        };
+        let mut visit = Some(w);
+        for _ in 0..NODES {
+            let Some(here) = visit else {
+                return;
+            };
+            mark[here] = mark[here].wrapping_add(change);
+            self.depth[here] = self.depth[self.above(here)].wrapping_add(1);
+            visit = waiting.next(hung(self.child[here]), self.beside(here, w));
+        }
     }
 }

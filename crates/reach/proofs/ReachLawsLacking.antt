@@ -4,16 +4,15 @@ use native.Mathlib.Nat.{add-zero}
 use native.Mathlib.Omega.{arith}
 use mathlib.Core.Path.{◌≡◌, refl, sym, ap, ap₂, subst, ◌∙◌}
 use mathlib.Core.List.{List, [], ◌∷◌, ◌++◌, map}
-use mathlib.Core.Bool.{Bool, true, false, cond, ◌&&◌, ◌||◌}
+use mathlib.Core.Bool.{Bool, true, false, cond, ◌&&◌}
 use lib.Dec.{eqb}
 use lib.IntN.{ℤ}
 use lib.ListN.{length, get_or, take}
 use lib.Seq.{drop-cons}
-use borrow.Author.Tests.{eq-eqb, ne_eqb}
 use Rattle.mathematics.specs.Lists.{All, last_of}
 use Rattle.mathematics.specs.Graph.{Graph, Vertex}
 use Rattle.mathematics.specs.Cover.{Ask, vertex_asks, arc_ask}
-use Rattle.mathematics.specs.Reach.{from_start, to_end, read_lies, item_lies, ask_lies}
+use Rattle.mathematics.specs.Reach.{from_start, to_end, read_lies, ask_lies}
 use Rattle.forms.specs.declared.Verdict.{Verdict}
 use Rattle.forms.specs.Bytes.{byte, part, tabulate}
 use Rattle.forms.specs.GraphForm.{vertex_count, arc_count, read_count, arc_at, first_read_at, read_length, read_vertices_at, read_vertices, read_end}
@@ -25,32 +24,13 @@ use Rattle.forms.proofs.GraphRange.{vertices_length}
 use Rattle.forms.specs.BuildFaults.{asks_lie_verdict, reads_lie_verdict}
 use Rattle.reach.specs.Reached.{FormSizes, Reachable, vertex_ask, record_ask, lacks, lie_verdict}
 use Rattle.forms.specs.Limits.{room_vertices, room_reads}
-
--- ---- one item
-
-module _ (G : Graph ℤ) (a : Ask) where
-  pub ask_nothing : a.demand ≡ 0 → 0 ≡ lacks G a
-  unfolding lacks
-  ask_nothing e = simp (eq-eqb _ _ e)
-
-  pub ask_lies_lem : item_lies G a.item ≡ true → 0 ≡ lacks G a
-  unfolding lacks
-  ask_lies_lem e = by (eqb a.demand 0) (item_lies G a.item) e
-    where
-      by : (x y : Bool) → y ≡ true → ◌≡◌ {A = ℕ} 0 (cond (x || y) 0 8)
-      by true y e = refl
-      by false y e = simp e
-
-  pub ask_lacks : (a.demand ≡ 0 → ⊥) → item_lies G a.item ≡ false → 8 ≡ lacks G a
-  unfolding lacks
-  ask_lacks ne e = simp (ne_eqb _ _ ne, e)
+use Rattle.reach.specs.declared.Reach.{Reach}
 
 -- what the arrays say of what begins with u and ends with v
-pub reachable_lies : {s : List ℕ} {xs ys : List Bool} → Reachable s xs ys → {x y u v : ℕ} → x ≡ u → y ≡ v → u < vertex_count s → v < vertex_count s → {r b : Bool} →
-    r ≡ (get_or xs x false && get_or ys y false) → r ≡ b → (from_start (graph_of s) u && to_end (graph_of s) v) ≡ b
-reachable_lies {s} {xs} {ys} m {x} {y} {u} {v} eu ev lu lv e q =
-    ap₂ (λ x y. x && y) (sym (m.starts.says u lu) ∙ ap (λ k. get_or xs k false) (sym eu)) (sym (m.ends.says v lv) ∙ ap (λ k. get_or ys k false) (sym ev)) ∙
-    sym e ∙ q
+pub reachable_lies : {s : List ℕ} {r : Reach} → Reachable s r → {x y u v : ℕ} → x ≡ u → y ≡ v → u < vertex_count s → v < vertex_count s →
+    (get_or r.reached x false && get_or r.reaching y false) ≡ (from_start (graph_of s) u && to_end (graph_of s) v)
+reachable_lies {s} {r} m {x} {y} {u} {v} eu ev lu lv =
+    ap₂ (λ x y. x && y) (ap (λ k. get_or r.reached k false) eu ∙ m.starts.says u lu) (ap (λ k. get_or r.reaching k false) ev ∙ m.ends.says v lv)
 
 -- ---- vertices and arcs
 
@@ -230,7 +210,7 @@ module _ {s : List ℕ} {n m : ℕ} (c : FormSizes s n m) where
         sym (left.same ∙ ap (λ j. reads_lie_verdict (graph_of s) (n + m + k) (reads_from s j at) nothing_refused) none)
 
 -- what a read's first and last byte say of it
-module _ {s : List ℕ} {xs ys : List Bool} (m : Reachable s xs ys) {at : ℕ} (r : ReadRight s at) {i j x y : ℕ} (begins : i ≡ read_vertices_at s at) (ends : j ≡ read_end s at)
+module _ {s : List ℕ} {reach : Reach} (m : Reachable s reach) {at : ℕ} (r : ReadRight s at) {i j x y : ℕ} (begins : i ≡ read_vertices_at s at) (ends : j ≡ read_end s at)
     (first : x ≡ byte s i) (last : y ≡ byte s (j - 1)) where
   first_is : x ≡ byte s (read_vertices_at s at)
   first_is = first ∙ ap (byte s) begins
@@ -244,5 +224,5 @@ module _ {s : List ℕ} {xs ys : List Bool} (m : Reachable s xs ys) {at : ℕ} (
       let few = m.reads.arcs.header.vertices_room in
       (omega (arith, e.first_low, first_is), omega (arith, e.last_low, last_is))
 
-  pub ends_lie : {b : Bool} → b ≡ (get_or xs x false && get_or ys y false) → b ≡ read_lies (graph_of s) (read_vertices s at)
-  ends_lie e = let q = read_ends s at r in sym (reachable_lies m first_is last_is q.first_low q.last_low e refl) ∙ sym q.lies
+  pub ends_lie : {b : Bool} → b ≡ (get_or reach.reached x false && get_or reach.reaching y false) → b ≡ read_lies (graph_of s) (read_vertices s at)
+  ends_lie e = let q = read_ends s at r in e ∙ reachable_lies m first_is last_is q.first_low q.last_low ∙ sym q.lies

@@ -1,14 +1,6 @@
 -- Moving the reads that are kept up to the front of the table, one row a turn: what holds between turns, and that at the end the dropped reads are gone.
-use Prim.Native.Nat.{ℕ, zero, suc, ◌+◌, ◌≤◌, ◌<◌}
-use native.Mathlib.Omega.{arith}
-use native.Mathlib.Numerals.{add-one}
-use native.Mathlib.Decide.{dec_lt}
-use native.Mathlib.Nat.{add-zero}
-use mathlib.Core.Path.{◌≡◌, refl, sym, ap, subst, ◌∙◌}
-use mathlib.Core.List.{List, [], ◌∷◌, ◌++◌, append-nil, append_assoc}
-use mathlib.Core.Bool.{Bool, true, false, cond, ◌||◌}
-use lib.ListN.{length, get_or, take, drop, set, length-set, drop_of_length-le}
-use lib.Seq.{take-suc, drop-cons, take-take, take-suc-set, drop-set-lt, drop-drop, get_or-drop, get_or-set_same, get_or-set_other}
+use Rattle.std.proofs.Common.{ℕ, zero, suc, ◌+◌, ◌≤◌, ◌<◌, ◌≡◌, refl, sym, ap, subst, ◌∙◌, List, [], ◌∷◌, ◌++◌, append-nil, append_assoc, Bool, true, false, cond, ◌||◌, length, get_or, take, drop, set, arith, add-one, add-zero, length-set, drop_of_length-le, take-suc, drop-cons, take-take, take-suc-set, drop-set-lt, drop-drop, get_or-drop, get_or-set_same, get_or-set_other}
+use Rattle.std.proofs.Math.Decide.{dec_lt}
 use Rattle.mathematics.specs.Lists.{All, some_holds}
 use Rattle.mathematics.specs.Prepare.{some_longer, drop_parts}
 use Rattle.mathematics.proofs.Dropped.{dropped_all}

@@ -1,20 +1,17 @@
 -- The joined read of the pair with the longest overlap is a read again: it rises, so it is no longer than there are vertices; and the table's join is `join_at`.
-use Prim.Native.Nat.{ℕ, suc, ◌+◌, ◌≤◌, ◌<◌, min, max}
-use native.Mathlib.Omega.{arith}
-use mathlib.Core.Path.{◌≡◌, sym, ap, ap₂, subst, ◌∙◌}
-use mathlib.Core.List.{List, [], ◌∷◌, ◌++◌, append_assoc}
-use mathlib.Core.Logic.{inl, inr}
-use lib.ListN.{length, get_or, drop, set, length-append, length-drop}
-use lib.Seq.{drop-append_seam}
+use Rattle.std.proofs.Common.{ℕ, suc, ◌+◌, ◌≤◌, ◌<◌, min, max, ◌≡◌, sym, ap, ap₂, subst, ◌∙◌, List, [], ◌∷◌, ◌++◌, append_assoc, inl, inr, length, take, drop, set, get_or, slice_range, arith, length-append}
+use Rattle.std.proofs.Math.Seq.{drop-append_seam}
+use Rattle.std.proofs.lemmas.List.{take_rest}
 use Rattle.mathematics.specs.Lists.{All}
 use Rattle.mathematics.specs.Prepare.{overlap, Meeting, longest, without, join_at}
 use Rattle.mathematics.proofs.Basics.{all_weaken, all_append, all_left, all_right}
 use Rattle.mathematics.proofs.Parts.{Rising}
 use Rattle.mathematics.proofs.Overlap.{overlap_meets}
 use Rattle.mathematics.proofs.Longest.{Meets, longest_meets}
-use Rattle.reads.specs.ReadTable.{row_at, rows_of, ReadHolds, TableHolds, join_of, row_length}
+use Rattle.reads.specs.ReadTable.{row_at, rows_of, ReadHolds, TableHolds, row_length}
 use Rattle.reads.proofs.TableLaws.{climbs_rising, rising_climbs}
 use Rattle.reads.proofs.TableRows.{table_length, table_get, table_row}
+use Rattle.reads.proofs.JoinLaws.{put_table, put_reads}
 
 rising_size : (r : List ℕ) (low top : ℕ) → low ≤ top → Rising r → All (λ (v : ℕ). low ≤ v) r → All (λ (v : ℕ). v < top) r → low + length r ≤ top
 rising_size [] low top l h a b = omega arith
@@ -60,28 +57,19 @@ overlap_less a b l =
 pub record Joins (rows : List (List ℕ)) (lens : List ℕ) (count : ℕ) (m : Meeting) : Type 0 where
   pub i_below : m.i < count
   pub j_below : m.j < count
-  pub part : m.shared ≤ get_or lens m.j 0
-  pub room : get_or lens m.i 0 + get_or lens m.j 0 ≤ row_length + m.shared
-  pub read : ReadHolds (join_of rows lens m.i m.j m.shared)
+  pub part : m.shared ≤ length (row_at rows lens m.j)
+  pub read : ReadHolds (row_at rows lens m.i ++ drop m.shared (row_at rows lens m.j))
 
 module _ (rows : List (List ℕ)) (lens : List ℕ) (count : ℕ) (t : TableHolds rows lens count) (m : Meeting) where
   joins_at : m.i < count → m.j < count → m.shared ≡ overlap (row_at rows lens m.i) (row_at rows lens m.j) → 1 ≤ m.shared →
       Joins rows lens count m
-  unfolding join_of
   joins_at li lj e l =
       let a = row_at rows lens m.i in
       let b = row_at rows lens m.j in
       let gi = table_row rows lens count t m.i li in
       let gj = table_row rows lens count t m.j lj in
       let some : 1 ≤ overlap a b = omega (arith, e) in
-      let r : ReadHolds (a ++ drop m.shared b) = rw e (read_join a b gi.read gj.read some) in
-      record {
-        i_below = li;
-        j_below = lj;
-        part = omega (arith, e, overlap_less a b some, gj.long);
-        room = omega (arith, gi.long, gj.long, read_size (a ++ drop m.shared b) r, length-append a (drop m.shared b), length-drop m.shared b);
-        read = r;
-      }
+      record { i_below = li; j_below = lj; part = omega (arith, e, overlap_less a b some); read = rw e (read_join a b gi.read gj.read some) }
 
   -- the pair with the longest overlap can be joined
   pub longest_joins : m ≡ longest (rows_of rows lens count) → 1 ≤ m.shared → Joins rows lens count m
@@ -96,28 +84,35 @@ module _ (rows : List (List ℕ)) (lens : List ℕ) (count : ℕ) (t : TableHold
             (g.size ∙ ap₂ overlap (table_get rows lens count t m.i li) (table_get rows lens count t m.j lj)) l
       ]
 
-  module _ (f : Joins rows lens count m) (read : List ℕ) (e : read ≡ join_of rows lens m.i m.j m.shared) where
-    join_read : read ≡ get_or (rows_of rows lens count) m.i [] ++ drop m.shared (get_or (rows_of rows lens count) m.j [])
-    unfolding join_of
-    join_read =
-        e ∙ sym (ap₂ (λ (a b : List ℕ). a ++ drop m.shared b) (table_get rows lens count t m.i f.i_below) (table_get rows lens count t m.j f.j_below))
+  -- the two reads, and what of the second is behind their overlap, as the code takes it
+  module _ (f : Joins rows lens count m) (a b : List ℕ) (ea : a ≡ row_at rows lens m.i) (eb : b ≡ row_at rows lens m.j) where
+    abbrev rest : List ℕ
+    rest = slice_range b m.shared (length b)
 
-    -- the joined read is a read
-    pub join_holds : ReadHolds read
-    join_holds = subst ReadHolds (sym e) f.read
+    join_read : a ++ rest ≡ row_at rows lens m.i ++ drop m.shared (row_at rows lens m.j)
+    join_read = ap₂ ◌++◌ ea (take_rest b m.shared ∙ ap (drop m.shared) eb)
+
+    join_holds : ReadHolds (a ++ rest)
+    join_holds = subst ReadHolds (sym join_read) f.read
+
+    -- the joined read fits a row
+    pub join_room : length a + length rest ≤ row_length
+    join_room = omega (arith, read_size (a ++ rest) join_holds, length-append a rest)
 
     -- "Replace both by the joined read, in the lower of the two places."
-    pub join_before : m.i < m.j → without m.j (set (rows_of rows lens count) m.i read) ≡ join_at m (rows_of rows lens count)
-    unfolding join_at
-    join_before l =
-        let high : max m.i m.j ≡ m.j = omega arith in
-        let low : min m.i m.j ≡ m.i = omega arith in
-        rw (high, low, join_read)
+    module _ (low : ℕ) (row : List ℕ) (el : low ≡ min m.i m.j) (wide : length row ≡ row_length) (e : take (length a + length rest) row ≡ a ++ rest) where
+      -- the joined read in its row
+      pub join_table : TableHolds (set rows low row) (set lens low (length a + length rest)) count
+      join_table =
+          put_table rows lens count low row (length a + length rest) t (omega (arith, f.i_below)) wide join_room (subst ReadHolds (sym e) join_holds)
 
-    -- the same where the second of the pair stands lower
-    pub join_after : m.j ≤ m.i → without m.i (set (rows_of rows lens count) m.j read) ≡ join_at m (rows_of rows lens count)
-    unfolding join_at
-    join_after l =
-        let high : max m.i m.j ≡ m.i = omega arith in
-        let low : min m.i m.j ≡ m.j = omega arith in
-        rw (high, low, join_read)
+      -- without the other row
+      pub join_lower : (high : ℕ) → high ≡ max m.i m.j →
+          without high (rows_of (set rows low row) (set lens low (length a + length rest)) count) ≡ join_at m (rows_of rows lens count)
+      unfolding join_at
+      join_lower high eh =
+          let read : take (length a + length rest) row ≡ get_or (rows_of rows lens count) m.i [] ++ drop m.shared (get_or (rows_of rows lens count) m.j []) =
+          e ∙ (join_read ∙ sym (ap₂ (λ (x y : List ℕ). x ++ drop m.shared y) (table_get rows lens count t m.i f.i_below) (table_get rows lens count t m.j f.j_below)))
+          in
+          ap (without high) (put_reads rows lens count low row (length a + length rest) t (omega (arith, f.i_below)) ∙ ap (set (rows_of rows lens count) low) read)
+          ∙ ap₂ (λ (h k : ℕ). without h (set (rows_of rows lens count) k (get_or (rows_of rows lens count) m.i [] ++ drop m.shared (get_or (rows_of rows lens count) m.j [])))) eh el

@@ -1,11 +1,5 @@
 -- The search for the longest overlap, row by row, finds what `longest` of the table's reads is.
-use Prim.Native.Nat.{ℕ, ◌+◌, ◌≤◌, ◌<◌}
-use native.Mathlib.Omega.{arith}
-use native.Mathlib.Numerals.{add-one}
-use borrow.Author.Tests.{eq-eqb, ne_eqb, lt-ltb, le-ltb}
-use mathlib.Core.Path.{◌≡◌, refl, sym, ap, ap₂, ◌∙◌}
-use mathlib.Core.List.{List}
-use lib.ListN.{drop, drop_of_length-le}
+use Rattle.std.proofs.Common.{ℕ, ◌+◌, ◌≤◌, ◌<◌, ◌≡◌, refl, sym, ap, ap₂, ◌∙◌, List, drop, arith, add-one, eq-eqb, ne_eqb, lt-ltb, le-ltb, drop_of_length-le}
 use Rattle.mathematics.specs.Prepare.{overlap, Meeting, longest_with, longest_from, longest}
 use Rattle.reads.specs.ReadTable.{row_at, rows_of, TableHolds, next_at, with_from}
 use Rattle.reads.proofs.TableRows.{table_from, table_length}
@@ -20,16 +14,16 @@ module _ (rows : List (List ℕ)) (lens : List ℕ) (i j : ℕ) (best : Meeting)
   unfolding next_at
   next_same e = sym (simp (eq-eqb i j e))
 
-  -- a longer overlap is the better one
-  pub next_longer : (n : ℕ) → (i ≡ j → ⊥) → n ≡ overlap (row_at rows lens i) (row_at rows lens j) → best.shared < n →
-      record { shared = n; i = i; j = j } ≡ next_at rows lens i j best
-  unfolding next_at
-  next_longer n d e l = sym (simp (ne_eqb i j d, sym e, lt-ltb best.shared n l))
+  module _ (d : i ≡ j → ⊥) (a b : List ℕ) (ea : a ≡ row_at rows lens i) (eb : b ≡ row_at rows lens j) where
+    -- a longer overlap is the better one
+    pub next_longer : (n : ℕ) → n ≡ overlap a b → best.shared < n → record { shared = n; i = i; j = j } ≡ next_at rows lens i j best
+    unfolding next_at
+    next_longer n e l = sym (simp (ne_eqb i j d, sym ea, sym eb, sym e, lt-ltb best.shared n l))
 
-  -- an overlap that is not longer leaves the best so far
-  pub next_kept : (i ≡ j → ⊥) → overlap (row_at rows lens i) (row_at rows lens j) ≤ best.shared → best ≡ next_at rows lens i j best
-  unfolding next_at
-  next_kept d l = sym (simp (ne_eqb i j d, le-ltb best.shared (overlap (row_at rows lens i) (row_at rows lens j)) l))
+    -- an overlap that is not longer leaves the best so far
+    pub next_kept : overlap a b ≤ best.shared → best ≡ next_at rows lens i j best
+    unfolding next_at
+    next_kept l = sym (simp (ne_eqb i j d, sym ea, sym eb, le-ltb best.shared (overlap a b) l))
 
 module _ (rows : List (List ℕ)) (lens : List ℕ) (count i : ℕ) (t : TableHolds rows lens count) where
   -- one row as the second of the pair is looked at

@@ -1,21 +1,16 @@
 -- The overlap of two reads that rise, from the one place where the second read's first number stands in the first: a law for each answer of the code.
-use Prim.Native.Nat.{ℕ, zero, suc, ◌+◌, ◌-◌, ◌≤◌, ◌<◌, min}
-use native.Mathlib.Omega.{arith}
-use native.Mathlib.Nat.{add-zero, eq-or-lt_of_le}
-use native.Mathlib.Decide.{dec_lt}
-use mathlib.Core.Path.{◌≡◌, refl, sym, ap, subst, subst₂, ◌∙◌}
-use mathlib.Core.List.{List, [], ◌++◌}
-use mathlib.Core.Bool.{Bool, true, false, cond}
-use mathlib.Core.Logic.{◌⊎◌, inl, inr}
-use lib.Dec.{T}
-use lib.ListN.{length, get_or, drop, length-append, get_or-append}
-use lib.Seq.{get_or-append-add, drop-append_seam}
+use Rattle.std.proofs.Common.{ℕ, zero, suc, ◌+◌, ◌-◌, ◌≤◌, ◌<◌, min, ◌≡◌, refl, sym, ap, subst, subst₂, ◌∙◌, List, ◌++◌, Bool, true, false, cond, T, eqb, ◌⊎◌, inl, inr, length, get_or, drop, slice_range, arith, add-zero, eq-or-lt_of_le, length-append, length-drop, get_or-append-add}
+use Rattle.std.proofs.Math.Decide.{dec_lt}
+use Rattle.std.proofs.Math.ListN.{get_or-append}
+use Rattle.std.proofs.Math.Seq.{drop-append_seam}
+use Rattle.std.proofs.lemmas.List.{take_rest}
+use Rattle.std.specs.List.{starts_with}
 use Rattle.mathematics.specs.Lists.{begins}
 use Rattle.mathematics.specs.Prepare.{overlap_up_to, overlap}
 use Rattle.mathematics.proofs.Parts.{begins_append}
 use Rattle.mathematics.proofs.Overlap.{overlap_meets}
-use Rattle.reads.specs.ReadTable.{row_at, runs, Climbs, RowHolds, Place}
-use Rattle.reads.proofs.TableLaws.{row_get, last_get, climbs_at, climbs_to, climbs_last}
+use Rattle.reads.specs.ReadTable.{Climbs, ReadHolds, Place}
+use Rattle.reads.proofs.TableLaws.{climbs_at, climbs_to, climbs_last, starts_begins, begins_else}
 
 -- a number stands at one place of a list that climbs
 one_place : (a : List ℕ) (v p k : ℕ) → Climbs a → Place a v p → k < length a → get_or a k 0 ≡ v → p ≡ k
@@ -145,72 +140,57 @@ module _ (a b : List ℕ) (ca : Climbs a) (cb : Climbs b) (sa : 1 ≤ length a) 
         let m = common a b l in
         omega (arith, at_place m l, m.size)
 
-module _ (rows : List (List ℕ)) (lens : List ℕ) (i j : ℕ) (gi : RowHolds rows lens i) (gj : RowHolds rows lens j) where
-  first_get : get_or (row_at rows lens i) 0 0 ≡ get_or (get_or rows i []) 0 0
-  first_get = row_get rows lens i 0 (omega (arith, gi.long, gi.read.some))
-
-module _ (rows : List (List ℕ)) (lens : List ℕ) (i j : ℕ) (gi : RowHolds rows lens i) (gj : RowHolds rows lens j) where
+module _ (a b : List ℕ) (ga : ReadHolds a) (gb : ReadHolds b) where
   -- where the number that far from the end is below the second read's first, the overlap is no longer than floor
-  pub meets_under : (floor : ℕ) → floor < get_or lens i 0 → get_or (get_or rows i []) (get_or lens i 0 - 1 - floor) 0 < get_or (get_or rows j []) 0 0 →
-      overlap (row_at rows lens i) (row_at rows lens j) ≤ floor
-  meets_under floor l h =
-      overlap_under (row_at rows lens i) (row_at rows lens j) gi.read.climbs gj.read.climbs gi.read.some gj.read.some floor
-      (omega (arith, gi.long))
-      (rw (gi.long, row_get rows lens i (get_or lens i 0 - 1 - floor) (omega arith), first_get rows lens j i gj gi) h)
+  pub meets_under : (floor : ℕ) → floor < length a → get_or a (length a - 1 - floor) 0 < get_or b 0 0 → overlap a b ≤ floor
+  meets_under = overlap_under a b ga.climbs gb.climbs ga.some gb.some
 
   -- an overlap is no longer than the first read
-  pub meets_short : (floor : ℕ) → get_or lens i 0 ≤ floor → overlap (row_at rows lens i) (row_at rows lens j) ≤ floor
+  pub meets_short : (floor : ℕ) → length a ≤ floor → overlap a b ≤ floor
   meets_short floor l =
-      elim (dec_lt floor (overlap (row_at rows lens i) (row_at rows lens j))) [
-        | yes k ↦ absurd (omega (arith, gi.long, (common (row_at rows lens i) (row_at rows lens j) (omega arith)).size))
-        | no k ↦ omega arith
-      ]
+      elim (dec_lt floor (overlap a b)) [ yes k ↦ absurd (omega (arith, (common a b (omega arith)).size)) | no k ↦ omega arith ]
 
   -- no overlap: the second read begins at or below the first read's first number
-  pub meets_first : get_or (get_or rows j []) 0 0 ≤ get_or (get_or rows i []) 0 0 → 0 ≡ overlap (row_at rows lens i) (row_at rows lens j)
-  meets_first h =
-      overlap_first (row_at rows lens i) (row_at rows lens j) gi.read.climbs gj.read.climbs gi.read.some gj.read.some
-      (omega (arith, first_get rows lens i j gi gj, first_get rows lens j i gj gi))
+  pub meets_first : get_or b 0 0 ≤ get_or a 0 0 → 0 ≡ overlap a b
+  meets_first = overlap_first a b ga.climbs gb.climbs ga.some gb.some
 
   -- no overlap: the second read begins above the first read's last number
-  pub meets_beyond : get_or (get_or rows i []) (get_or lens i 0 - 1) 0 < get_or (get_or rows j []) 0 0 → 0 ≡ overlap (row_at rows lens i) (row_at rows lens j)
-  meets_beyond h =
-      overlap_beyond (row_at rows lens i) (row_at rows lens j) gi.read.climbs gj.read.climbs gi.read.some gj.read.some
-      (omega (arith, last_get rows lens i j gi gj, first_get rows lens j i gj gi))
+  pub meets_beyond : get_or a (length a - 1) 0 < get_or b 0 0 → 0 ≡ overlap a b
+  meets_beyond = overlap_beyond a b ga.climbs gb.climbs ga.some gb.some
 
   -- no overlap: the second read does not reach beyond the first
-  pub meets_inside : get_or (get_or rows j []) (get_or lens j 0 - 1) 0 ≤ get_or (get_or rows i []) (get_or lens i 0 - 1) 0 →
-      0 ≡ overlap (row_at rows lens i) (row_at rows lens j)
-  meets_inside h =
-      overlap_inside (row_at rows lens i) (row_at rows lens j) gi.read.climbs gj.read.climbs gi.read.some gj.read.some
-      (omega (arith, last_get rows lens i j gi gj, last_get rows lens j i gj gi))
+  pub meets_inside : get_or b (length b - 1) 0 ≤ get_or a (length a - 1) 0 → 0 ≡ overlap a b
+  meets_inside = overlap_inside a b ga.climbs gb.climbs ga.some gb.some
 
-  module _ (p : ℕ) (g : Place (row_at rows lens i) (get_or (get_or rows j []) 0 0) p) where
-    place_row : Place (row_at rows lens i) (get_or (row_at rows lens j) 0 0) p
-    place_row = rw (first_get rows lens j i gj gi) g
+  module _ (p : ℕ) (g : Place a (get_or b 0 0) p) where
+    end_length : length (slice_range a p (length a)) ≡ length a - p
+    end_length = ap length (take_rest a p) ∙ length-drop p a
+
+    end_begins : starts_with eqb b (slice_range a p (length a)) ≡ begins (drop p a) b
+    end_begins = starts_begins b (slice_range a p (length a)) ∙ ap (λ (r : List ℕ). begins r b) (take_rest a p)
 
     -- no overlap: the second read would end inside the first
-    pub meets_long : get_or lens j 0 + p ≤ get_or lens i 0 → 0 ≡ overlap (row_at rows lens i) (row_at rows lens j)
-    meets_long h =
-        overlap_long (row_at rows lens i) (row_at rows lens j) gi.read.climbs gj.read.climbs gi.read.some gj.read.some p place_row
-        (omega (arith, gi.long, gj.long))
+    pub meets_long : length b ≤ length (slice_range a p (length a)) → 0 ≡ overlap a b
+    meets_long l = overlap_long a b ga.climbs gb.climbs ga.some gb.some p g (omega (arith, end_length, g.within, gb.some))
 
-    -- no overlap: the runs differ
-    pub meets_none : false ≡ runs rows lens i p j 0 → 0 ≡ overlap (row_at rows lens i) (row_at rows lens j)
-    unfolding runs
-    meets_none e =
-        overlap_none (row_at rows lens i) (row_at rows lens j) gi.read.climbs gj.read.climbs gi.read.some gj.read.some p place_row
-        (sym e)
+    -- no overlap: the second read's first number is not in the first read
+    pub meets_else : get_or b 0 0 ≤ get_or a (length a - 1) 0 → (get_or (slice_range a p (length a)) 0 0 ≡ get_or b 0 0 → ⊥) → 0 ≡ overlap a b
+    meets_else l n =
+        overlap_none a b ga.climbs gb.climbs ga.some gb.some p g
+        (begins_else (drop p a) b (omega (arith, length-drop p a, place_inside a (get_or b 0 0) p g ga.some l)) gb.some
+        (λ e. n (ap (λ (r : List ℕ). get_or r 0 0) (take_rest a p) ∙ e)))
+
+    -- no overlap: the second read does not begin with the end of the first
+    pub meets_none : starts_with eqb b (slice_range a p (length a)) ≡ false → 0 ≡ overlap a b
+    meets_none n = overlap_none a b ga.climbs gb.climbs ga.some gb.some p g (sym end_begins ∙ n)
 
     -- the overlap is what the first read has from that place on
-    pub meets_found : get_or (get_or rows i []) 0 0 < get_or (get_or rows j []) 0 0 →
-        get_or (get_or rows j []) 0 0 ≤ get_or (get_or rows i []) (get_or lens i 0 - 1) 0 → get_or lens i 0 < get_or lens j 0 + p →
-        true ≡ runs rows lens i p j 0 → get_or lens i 0 - p ≡ overlap (row_at rows lens i) (row_at rows lens j)
-    unfolding runs
-    meets_found f l h e =
-        subst (λ (n : ℕ). n - p ≡ overlap (row_at rows lens i) (row_at rows lens j)) gi.long
-        (overlap_found (row_at rows lens i) (row_at rows lens j) gi.read.climbs gj.read.climbs gi.read.some gj.read.some p place_row
-        (place_after (row_at rows lens i) (get_or (get_or rows j []) 0 0) p g gi.read.some (omega (arith, first_get rows lens i j gi gj)))
-        (omega (arith, gi.long, gj.long))
-        (place_inside (row_at rows lens i) (get_or (get_or rows j []) 0 0) p g gi.read.some (omega (arith, last_get rows lens i j gi gj)))
-        (subst T e tt))
+    pub meets_found : get_or a 0 0 < get_or b 0 0 → get_or b 0 0 ≤ get_or a (length a - 1) 0 → length (slice_range a p (length a)) < length b →
+        starts_with eqb b (slice_range a p (length a)) ≡ true → length (slice_range a p (length a)) ≡ overlap a b
+    meets_found f l h t =
+        end_length
+        ∙ overlap_found a b ga.climbs gb.climbs ga.some gb.some p g
+        (place_after a (get_or b 0 0) p g ga.some f)
+        (omega (arith, end_length, g.within))
+        (place_inside a (get_or b 0 0) p g ga.some l)
+        (subst T (sym (sym end_begins ∙ t)) tt)

@@ -1,15 +1,6 @@
 -- The "While" of joining, turn by turn: as many turns as there are reads are enough, one turn joins one pair, and the end is where no two reads overlap.
-use Prim.Native.Nat.{ℕ, zero, suc, ◌+◌, ◌≤◌}
-use native.Mathlib.Omega.{arith}
-use native.Mathlib.Numerals.{add-one}
-use native.Mathlib.Nat.{eq-or-lt_of_le}
-use borrow.Author.Tests.{eq-eqb, ne_eqb}
-use mathlib.Core.Path.{◌≡◌, refl, sym, ap, ◌∙◌}
-use mathlib.Core.List.{List, [], ◌∷◌}
-use mathlib.Core.Bool.{Bool, cond}
-use mathlib.Core.Logic.{inl, inr}
-use native.Mathlib.Decide.{ℕ_discrete}
-use lib.ListN.{length}
+use Rattle.std.proofs.Common.{ℕ, zero, suc, ◌+◌, ◌≤◌, ◌≡◌, refl, sym, ap, ◌∙◌, List, [], ◌∷◌, Bool, cond, inl, inr, length, arith, add-one, eq-or-lt_of_le, eq-eqb, ne_eqb}
+use Rattle.std.proofs.Math.Decide.{ℕ_discrete}
 use Rattle.mathematics.specs.Prepare.{drop_parts, Meeting, longest, join_at, join_while, prepare}
 use Rattle.mathematics.proofs.Dropped.{dropped_fewer}
 use Rattle.mathematics.proofs.Joined.{join, join_fewer}
@@ -51,13 +42,6 @@ while_enough (suc turns) k rs l m =
       | inr h ↦ while_more turns rs (omega arith) ∙ while_enough turns k rs (omega arith) m
     ]
 
--- a table of no read or one is prepared as it is
-pub prepare_few : (rs : List (List ℕ)) → length rs ≤ 1 → prepare rs ≡ rs
-unfolding prepare
-prepare_few [] l = refl
-prepare_few (a ∷ []) l = while_stop 1 (a ∷ []) (longest_few (a ∷ []) l)
-prepare_few (a ∷ b ∷ rs) l = absurd (omega arith)
-
 -- after dropping, what is left to do is the joining
 pub prepare_start : (rs : List (List ℕ)) (rows : List (List ℕ)) (lens : List ℕ) (n : ℕ) → Leaves rows lens n (drop_parts [] rs) →
     prepare rs ≡ join_while n (rows_of rows lens n)
@@ -69,17 +53,13 @@ prepare_start rs rows lens n h =
 
 module _ (total : List (List ℕ)) (rows : List (List ℕ)) (lens : List ℕ) (n : ℕ) (t : TableHolds rows lens n) (e : total ≡ join_while n (rows_of rows lens n)) where
   -- a turn that joins leaves the rest of the turns
-  pub prepare_turn : (m : Meeting) (rows' : List (List ℕ)) (lens' : List ℕ) (n' : ℕ) → m ≡ longest (rows_of rows lens n) → (m.shared ≡ 0 → ⊥) →
+  pub prepare_turn : (m : Meeting) (rows' : List (List ℕ)) (lens' : List ℕ) (n' : ℕ) → m ≡ longest (rows_of rows lens n) → 1 ≤ m.shared →
       Leaves rows' lens' n' (join_at m (rows_of rows lens n)) → n' + 1 ≡ n → total ≡ join_while n' (rows_of rows' lens' n')
   prepare_turn m rows' lens' n' f d h s =
       e ∙ (ap (λ (k : ℕ). join_while k (rows_of rows lens n)) (sym s ∙ add-one n')
-      ∙ (while_turn n' (rows_of rows lens n) (λ z. d (ap {B = ℕ} (λ (q : Meeting). q.shared) f ∙ z))
+      ∙ (while_turn n' (rows_of rows lens n) (λ z. omega (arith, d, ap {B = ℕ} (λ (q : Meeting). q.shared) f))
       ∙ ap (join_while n') (ap (λ (q : Meeting). join_at q (rows_of rows lens n)) (sym f) ∙ sym h.reads)))
 
   -- no two reads overlap: the table holds the prepared reads
   pub prepare_stop : (m : Meeting) → m ≡ longest (rows_of rows lens n) → m.shared ≡ 0 → rows_of rows lens n ≡ total
   prepare_stop m f z = sym (e ∙ while_stop n (rows_of rows lens n) (ap {B = ℕ} (λ (q : Meeting). q.shared) (sym f) ∙ z))
-
-  -- one read or none is left: the table holds the prepared reads
-  pub prepare_end : n ≤ 1 → rows_of rows lens n ≡ total
-  prepare_end l = sym (e ∙ while_stop n (rows_of rows lens n) (longest_few (rows_of rows lens n) (omega (arith, table_length rows lens n t))))

@@ -1,21 +1,13 @@
--- Laws on rising lists of numbers and on the table of reads, a law for each step of the code that prepares the reads.
-use Prim.Native.Nat.{ℕ, zero, suc, ◌+◌, ◌-◌, ◌≤◌, ◌<◌, pred}
-use native.Mathlib.Omega.{arith}
-use native.Mathlib.Numerals.{add-one}
-use native.Mathlib.Nat.{eq-or-lt_of_le}
-use borrow.Author.Count.{below_more}
-use borrow.Author.Tests.{eq-eqb, ne_eqb}
-use mathlib.Core.Path.{◌≡◌, refl, sym, ap, ap₂, ◌∙◌}
-use mathlib.Core.List.{List, [], ◌∷◌, ◌++◌}
-use mathlib.Core.Bool.{Bool, true, false, ◌&&◌, ◌||◌}
-use mathlib.Core.Logic.{inl, inr}
-use lib.Dec.{T, eqb}
-use lib.ListN.{length, get_or, drop, length-append, length-drop, get_or-append, drop_of_length-le}
-use lib.Seq.{get_or-take, get_or-append-add, drop-cons}
+-- Laws on rising lists of numbers and on the reads of the table, a law for each step of the code that compares two reads.
+use Rattle.std.proofs.Common.{ℕ, zero, suc, pred, ◌+◌, ◌-◌, ◌≤◌, ◌<◌, ◌≡◌, refl, sym, ap, ap₂, subst, ◌∙◌, List, [], ◌∷◌, ◌++◌, Bool, true, false, ◌&&◌, ◌||◌, T, eqb, inl, inr, length, get_or, take, drop, slice_range, arith, add-one, eq-or-lt_of_le, ne_eqb, length-append, length-drop, add-zero, get_or-drop, get_or-take, get_or-append-add}
+use Rattle.std.proofs.Math.Decide.{dec_lt}
+use Rattle.std.proofs.Math.ListN.{get_or-append}
+use Rattle.std.proofs.lemmas.List.{take_rest}
+use Rattle.std.specs.List.{starts_with}
 use Rattle.mathematics.specs.Lists.{begins, holds}
 use Rattle.mathematics.proofs.Basics.{all_weaken, all_at, at_all, is_false}
 use Rattle.mathematics.proofs.Parts.{Rising, holds_within, holds_above}
-use Rattle.reads.specs.ReadTable.{row_at, runs, Climbs, RowHolds, Place}
+use Rattle.reads.specs.ReadTable.{row_at, Climbs, ReadHolds, RowHolds, Place}
 
 and_false : (t : Bool) → t && false ≡ false
 and_false true = refl
@@ -29,58 +21,6 @@ or_false false = refl
 pub row_get : (rows : List (List ℕ)) (lens : List ℕ) (i k : ℕ) → k < get_or lens i 0 → get_or (row_at rows lens i) k 0 ≡ get_or (get_or rows i []) k 0
 unfolding row_at
 row_get rows lens i k l = get_or-take (get_or lens i 0) (get_or rows i []) k 0 l
-
--- every number of r before p is below v
-abbrev pub Under : List ℕ → ℕ → ℕ → Type 0
-Under r v p = (k : ℕ) → k < p → get_or r k 0 < v
-
--- a number below v is passed
-pub place_more : (rows : List (List ℕ)) (lens : List ℕ) (j v p : ℕ) → p < get_or lens j 0 → Under (row_at rows lens j) v p →
-    get_or (get_or rows j []) p 0 < v → Under (row_at rows lens j) v (p + 1)
-place_more rows lens j v p l u h = below_more _ p u (rw (row_get rows lens j p l) h)
-
--- the first number not below v is v's place
-pub place_found : (rows : List (List ℕ)) (lens : List ℕ) (j v p : ℕ) → RowHolds rows lens j → p < get_or lens j 0 → Under (row_at rows lens j) v p →
-    v ≤ get_or (get_or rows j []) p 0 → Place (row_at rows lens j) v p
-place_found rows lens j v p g l u h =
-    record { within = omega (arith, g.long); before = u; at = λ m. rw (row_get rows lens j p l) h }
-
--- where every number is below v, its place is the end
-pub place_end : (rows : List (List ℕ)) (lens : List ℕ) (j v p : ℕ) → RowHolds rows lens j → p ≤ get_or lens j 0 → get_or lens j 0 ≤ p →
-    Under (row_at rows lens j) v p → Place (row_at rows lens j) v p
-place_end rows lens j v p g l m u =
-    record { within = omega (arith, g.long); before = u; at = λ n. absurd (omega (arith, g.long)) }
-
--- two lists compared number by number
-begins_cons : (a b : List ℕ) (k at : ℕ) → k < length a → at < length b →
-    begins (drop k a) (drop at b) ≡ eqb (get_or a k 0) (get_or b at 0) && begins (drop (k + 1) a) (drop (at + 1) b)
-begins_cons a b k at l m = rw (add-one k, add-one at, drop-cons a k 0 l, drop-cons b at 0 m)
-
-begins_turn : (a b : List ℕ) (k at : ℕ) → k < length a → at < length b → get_or a k 0 ≡ get_or b at 0 →
-    begins (drop k a) (drop at b) ≡ begins (drop (k + 1) a) (drop (at + 1) b)
-begins_turn a b k at l m e = begins_cons a b k at l m ∙ simp (eq-eqb _ _ e)
-
-begins_stop : (a b : List ℕ) (k at : ℕ) → k < length a → at < length b → (get_or a k 0 ≡ get_or b at 0 → ⊥) → begins (drop k a) (drop at b) ≡ false
-begins_stop a b k at l m n = begins_cons a b k at l m ∙ simp (ne_eqb _ _ n)
-
-module _ (rows : List (List ℕ)) (lens : List ℕ) (i j k at : ℕ) (t : Bool) (e : t ≡ runs rows lens i k j at) (gi : RowHolds rows lens i) (gj : RowHolds rows lens j) where
-  -- equal numbers: the two runs go on
-  pub run_turn : k < get_or lens i 0 → at < get_or lens j 0 → get_or (get_or rows i []) k 0 ≡ get_or (get_or rows j []) at 0 →
-      t ≡ runs rows lens i (k + 1) j (at + 1)
-  unfolding runs
-  run_turn l m s =
-      e ∙ begins_turn (row_at rows lens i) (row_at rows lens j) k at (omega (arith, gi.long)) (omega (arith, gj.long)) (row_get rows lens i k l ∙ (s ∙ sym (row_get rows lens j at m)))
-
-  -- numbers that differ end the comparison
-  pub run_stop : k < get_or lens i 0 → at < get_or lens j 0 → (get_or (get_or rows i []) k 0 ≡ get_or (get_or rows j []) at 0 → ⊥) → false ≡ t
-  unfolding runs
-  run_stop l m n =
-      sym (e ∙ begins_stop (row_at rows lens i) (row_at rows lens j) k at (omega (arith, gi.long)) (omega (arith, gj.long)) (λ s. n (sym (row_get rows lens i k l) ∙ (s ∙ row_get rows lens j at m))))
-
-  -- a run that is used up begins the other
-  pub run_end : get_or lens i 0 ≤ k → true ≡ t
-  unfolding runs
-  run_end l = sym (e ∙ rw (drop_of_length-le (row_at rows lens i) {i = k} (omega (arith, gi.long))))
 
 -- the numbers of a list that climbs rise from any place to any later one
 pub climbs_at : (r : List ℕ) → Climbs r → (i j : ℕ) → i < j → j < length r → get_or r i 0 < get_or r j 0
@@ -121,6 +61,11 @@ begins_short [] b l = absurd (omega arith)
 begins_short (x ∷ a) [] l = refl
 begins_short (x ∷ a) (y ∷ b) l = ap (λ (t : Bool). eqb x y && t) (begins_short a b (omega arith)) ∙ and_false (eqb x y)
 
+pub begins_else : (a b : List ℕ) → 1 ≤ length a → 1 ≤ length b → (get_or a 0 0 ≡ get_or b 0 0 → ⊥) → begins a b ≡ false
+begins_else [] b l m n = absurd (omega arith)
+begins_else (x ∷ a) [] l m n = absurd (omega arith)
+begins_else (x ∷ a) (y ∷ b) l m n = ap (λ (t : Bool). t && begins a b) (ne_eqb x y n)
+
 holds_short : (b a : List ℕ) → length b < length a → holds b a ≡ false
 holds_short [] a l = begins_short a [] l
 holds_short (y ∷ b) a l = ap₂ ◌||◌ (begins_short a (y ∷ b) l) (holds_short b a (omega arith))
@@ -156,37 +101,48 @@ holds_last a b l c t =
     in
     omega (arith, climbs_last b c (length u + k) (omega (arith, long)), same)
 
-module _ (rows : List (List ℕ)) (lens : List ℕ) (i j : ℕ) (gi : RowHolds rows lens i) (gj : RowHolds rows lens j) where
-  -- a read's last number stands in its row
-  pub last_get : get_or (row_at rows lens i) (length (row_at rows lens i) - 1) 0 ≡ get_or (get_or rows i []) (get_or lens i 0 - 1) 0
-  last_get = rw gi.long (row_get rows lens i (get_or lens i 0 - 1) (omega (arith, gi.long, gi.read.some)))
+-- a read's last number stands in its row
+pub last_get : (rows : List (List ℕ)) (lens : List ℕ) (i : ℕ) → RowHolds rows lens i →
+    get_or (row_at rows lens i) (length (row_at rows lens i) - 1) 0 ≡ get_or (get_or rows i []) (get_or lens i 0 - 1) 0
+last_get rows lens i g = rw g.long (row_get rows lens i (get_or lens i 0 - 1) (omega (arith, g.long, g.read.some)))
 
+-- the used part of a row that holds a read, as the code takes it
+pub row_read : (rows : List (List ℕ)) (lens : List ℕ) (i : ℕ) → RowHolds rows lens i → (r : List ℕ) → r ≡ take (get_or lens i 0) (get_or rows i []) →
+    (r ≡ row_at rows lens i) × ReadHolds r
+unfolding row_at
+row_read rows lens i g r e = (e, subst ReadHolds (sym e) g.read)
+
+-- what a list begins with, as the library tests it and as the mathematics does
+pub starts_begins : (p r : List ℕ) → starts_with eqb p r ≡ begins r p
+starts_begins p [] = refl
+starts_begins [] (x ∷ r) = refl
+starts_begins (y ∷ p) (x ∷ r) = ap (λ (t : Bool). eqb x y && t) (starts_begins p r)
+
+module _ (a b : List ℕ) (ga : ReadHolds a) (gb : ReadHolds b) where
   -- a read is no part of a shorter one
-  pub part_short : get_or lens j 0 < get_or lens i 0 → false ≡ holds (row_at rows lens j) (row_at rows lens i)
-  part_short l = sym (holds_short (row_at rows lens j) (row_at rows lens i) (omega (arith, gi.long, gj.long)))
+  pub part_short : length b < length a → false ≡ holds b a
+  part_short l = sym (holds_short b a l)
+
+  -- a part does not end above the last number
+  pub part_last : get_or b (length b - 1) 0 < get_or a (length a - 1) 0 → false ≡ holds b a
+  part_last l = sym (is_false (holds b a) (λ t. omega (arith, holds_last a b ga.some gb.climbs t)))
 
   -- a part stands where its first number stands
-  pub part_run : (p : ℕ) → Place (row_at rows lens j) (get_or (get_or rows i []) 0 0) p →
-      runs rows lens i 0 j p ≡ holds (row_at rows lens j) (row_at rows lens i)
-  unfolding runs
+  pub part_run : (p : ℕ) → Place b (get_or a 0 0) p → starts_with eqb (slice_range b p (length b)) a ≡ holds b a
   part_run p g =
-      sym
-      (holds_at_place (row_at rows lens i) (row_at rows lens j) p gi.read.some
-      (climbs_rising (row_at rows lens j) gj.read.climbs)
-      (rw (row_get rows lens i 0 (omega (arith, gi.long, gi.read.some))) g))
+      starts_begins (slice_range b p (length b)) a
+      ∙ (ap (begins a) (take_rest b p) ∙ sym (holds_at_place a b p ga.some (climbs_rising b gb.climbs) g))
 
-  -- there is no room for a part behind that place
-  pub part_late : (p : ℕ) → Place (row_at rows lens j) (get_or (get_or rows i []) 0 0) p → get_or lens j 0 < get_or lens i 0 + p →
-      false ≡ holds (row_at rows lens j) (row_at rows lens i)
-  unfolding runs
-  part_late p g l =
-      sym (begins_short (row_at rows lens i) (drop p (row_at rows lens j)) (simp length-drop (omega (arith, gi.long, gj.long, g.within))))
-      ∙ part_run p g
+  -- that place is inside, where the part does not end above the last number
+  pub part_inside : (p : ℕ) → Place b (get_or a 0 0) p → get_or a (length a - 1) 0 ≤ get_or b (length b - 1) 0 → p < length b
+  part_inside p g l =
+      elim (dec_lt p (length b)) [
+        | yes m ↦ m
+        | no m ↦ absurd (omega (arith, g.before (length b - 1) (omega (arith, gb.some)), climbs_last a ga.climbs 0 (omega (arith, ga.some)), gb.some))
+      ]
 
-module _ (rows : List (List ℕ)) (lens : List ℕ) (i j : ℕ) (gi : RowHolds rows lens i) (gj : RowHolds rows lens j) where
-  -- a part does not end above the last number
-  pub part_last : get_or (get_or rows j []) (get_or lens j 0 - 1) 0 < get_or (get_or rows i []) (get_or lens i 0 - 1) 0 →
-      false ≡ holds (row_at rows lens j) (row_at rows lens i)
-  part_last l =
-      sym (is_false (holds (row_at rows lens j) (row_at rows lens i))
-      (λ t. omega (arith, holds_last (row_at rows lens i) (row_at rows lens j) gi.read.some gj.read.climbs t, last_get rows lens i j gi gj, last_get rows lens j i gj gi)))
+  -- where another number stands at that place there is no part
+  pub part_else : (p : ℕ) → Place b (get_or a 0 0) p → p < length b → (get_or b p 0 ≡ get_or a 0 0 → ⊥) → false ≡ holds b a
+  part_else p g l n =
+      sym (begins_else a (drop p b) (omega (arith, ga.some)) (omega (arith, length-drop p b)) (λ e. n (ap (λ (k : ℕ). get_or b k 0) (sym (add-zero p)) ∙ (sym (get_or-drop p b 0 0) ∙ sym e))))
+      ∙ sym (holds_at_place a b p ga.some (climbs_rising b gb.climbs) g)

@@ -1,18 +1,11 @@
 -- The table of reads and the list of reads that it stands for: a row's read, stores into a row and its length, and the tests of dropping, read row by row.
-use Prim.Native.Nat.{ℕ, zero, suc, ◌+◌, ◌≤◌, ◌<◌, min}
-use native.Mathlib.Omega.{arith}
-use native.Mathlib.Numerals.{add-one}
-use borrow.Author.Tests.{lt-ltb, le-ltb}
-use mathlib.Core.Path.{◌≡◌, refl, sym, ap, subst, ◌∙◌}
-use mathlib.Core.List.{List, [], ◌∷◌}
-use mathlib.Core.Bool.{Bool, true, false, ◌&&◌, ◌||◌}
-use lib.ListN.{length, get_or, take, drop, set, length-take, drop_of_length-le, replicate, length-replicate}
-use native.Mathlib.Decide.{dec_lt}
-use lib.Seq.{get_or-take, drop-cons, take-take, get_or-set_same, get_or-set_other}
+use Rattle.std.proofs.Common.{ℕ, zero, suc, ◌+◌, ◌≤◌, ◌<◌, min, ◌≡◌, refl, sym, ap, subst, ◌∙◌, List, [], ◌∷◌, Bool, true, false, ◌&&◌, ◌||◌, ltb, length, get_or, take, drop, set, replicate, arith, add-one, length-take, drop_of_length-le, get_or-take, drop-cons, take-take, get_or-set_same, get_or-set_other}
+use Rattle.std.proofs.Math.Decide.{dec_lt}
+use Rattle.std.proofs.Math.ListN.{length-replicate}
 use Rattle.mathematics.specs.Lists.{All, holds, some_holds}
 use Rattle.mathematics.specs.Prepare.{some_longer}
 use Rattle.mathematics.proofs.Basics.{at_all}
-use Rattle.reads.specs.ReadTable.{row_at, used, rows_of, ReadHolds, RowHolds, TableHolds, Leaves, held_from, longer_at, longer_from, gone, table_rows, row_length, TableSized}
+use Rattle.reads.specs.ReadTable.{row_at, used, rows_of, ReadHolds, RowHolds, TableHolds, Leaves, held_from, longer_from, gone, table_rows, row_length, TableSized}
 
 used_length : (rows : List (List ℕ)) (lens : List ℕ) → length (used rows lens) ≡ min (length rows) (length lens)
 used_length [] lens = omega arith
@@ -90,11 +83,12 @@ module _ (rows : List (List ℕ)) (lens : List ℕ) (count : ℕ) (t : TableHold
 
 module _ (rows : List (List ℕ)) (lens : List ℕ) (i j : ℕ) where
   -- the lower rows from j on: row j, or those behind it
-  pub earlier_here : (t : TableHolds rows lens (i + 1)) → j < i →
-      held_from rows lens i j ≡ holds (row_at rows lens j) (row_at rows lens i) || held_from rows lens i (j + 1)
+  pub earlier_here : (t : TableHolds rows lens (i + 1)) → j < i → (outer inner : List ℕ) → outer ≡ row_at rows lens j → inner ≡ row_at rows lens i →
+      (part : Bool) → part ≡ holds outer inner → held_from rows lens i j ≡ part || held_from rows lens i (j + 1)
   unfolding held_from
-  earlier_here t l =
-      ap (λ (rs : List (List ℕ)). some_holds rs (row_at rows lens i)) (rows_from rows lens t.tall t.sized i j (omega (arith, t.counted)) l)
+  earlier_here t l outer inner a b part e =
+      rw (e, a, b)
+      (ap (λ (rs : List (List ℕ)). some_holds rs (row_at rows lens i)) (rows_from rows lens t.tall t.sized i j (omega (arith, t.counted)) l))
 
   -- no lower row is left
   pub earlier_end : (t : TableHolds rows lens (i + 1)) → i ≤ j → false ≡ held_from rows lens i j
@@ -105,9 +99,11 @@ module _ (rows : List (List ℕ)) (lens : List ℕ) (i j : ℕ) where
 
 module _ (rows : List (List ℕ)) (lens : List ℕ) (count i j : ℕ) (t : TableHolds rows lens count) where
   -- the higher rows from j on: row j, or those behind it
-  pub later_here : j < count → longer_from rows lens count i j ≡ longer_at rows lens i j || longer_from rows lens count i (j + 1)
-  unfolding longer_from longer_at
-  later_here l = ap (λ (rs : List (List ℕ)). some_longer rs (row_at rows lens i)) (table_from rows lens count t j l)
+  pub later_here : j < count → (outer inner : List ℕ) → outer ≡ row_at rows lens j → inner ≡ row_at rows lens i →
+      (longer : Bool) → longer ≡ ltb (length inner) (length outer) && holds outer inner → longer_from rows lens count i j ≡ longer || longer_from rows lens count i (j + 1)
+  unfolding longer_from
+  later_here l outer inner a b longer e =
+      rw (e, a, b) (ap (λ (rs : List (List ℕ)). some_longer rs (row_at rows lens i)) (table_from rows lens count t j l))
 
   -- no higher row is left
   pub later_end : count ≤ j → false ≡ longer_from rows lens count i j
@@ -115,28 +111,15 @@ module _ (rows : List (List ℕ)) (lens : List ℕ) (count i j : ℕ) (t : Table
   later_end l =
       sym (ap (λ (rs : List (List ℕ)). some_longer rs (row_at rows lens i)) (drop_of_length-le (rows_of rows lens count) {i = j} (omega (arith, table_length rows lens count t))))
 
-module _ (rows : List (List ℕ)) (lens : List ℕ) (i j : ℕ) (gi : RowHolds rows lens i) (gj : RowHolds rows lens j) where
-  -- a read that is not longer
-  pub longer_not : get_or lens j 0 ≤ get_or lens i 0 → false ≡ longer_at rows lens i j
-  unfolding longer_at
-  longer_not l =
-      sym (ap (λ (b : Bool). b && holds (row_at rows lens j) (row_at rows lens i)) (le-ltb (length (row_at rows lens i)) (length (row_at rows lens j)) (omega (arith, gi.long, gj.long))))
-
-  -- a longer read
-  pub longer_part : get_or lens i 0 < get_or lens j 0 → holds (row_at rows lens j) (row_at rows lens i) ≡ longer_at rows lens i j
-  unfolding longer_at
-  longer_part l =
-      sym (ap (λ (b : Bool). b && holds (row_at rows lens j) (row_at rows lens i)) (lt-ltb (length (row_at rows lens i)) (length (row_at rows lens j)) (omega (arith, gi.long, gj.long))))
-
--- a test that is or with one more: where that one holds, and where it does not
-pub or_found : (b rest t u : Bool) → t ≡ u → u ≡ b || rest → true ≡ b → true ≡ t
-or_found b rest t u p q e = sym (p ∙ (q ∙ ap (λ (x : Bool). x || rest) (sym e)))
+-- a test that is one test or the rest: where that one holds, and where it does not
+pub or_found : (b rest t u : Bool) → t ≡ u → u ≡ b || rest → b ≡ true → true ≡ t
+or_found b rest t u p q e = sym (p ∙ (q ∙ ap (λ (x : Bool). x || rest) e))
 
 -- where the first test fails, the rest decides
-pub or_rest : (b rest t u : Bool) → t ≡ u → u ≡ b || rest → false ≡ b → t ≡ rest
-or_rest b rest t u p q e = p ∙ (q ∙ ap (λ (x : Bool). x || rest) (sym e))
+pub or_rest : (b rest t u : Bool) → t ≡ u → u ≡ b || rest → b ≡ false → t ≡ rest
+or_rest b rest t u p q e = p ∙ (q ∙ ap (λ (x : Bool). x || rest) e)
 
-all_take : {A : Type 0} (P : A → Type 0) (k : ℕ) (xs : List A) → All P xs → All P (take k xs)
+pub all_take : {A : Type 0} (P : A → Type 0) (k : ℕ) (xs : List A) → All P xs → All P (take k xs)
 all_take P zero xs h = tt
 all_take P (suc k) [] h = tt
 all_take P (suc k) (x ∷ xs) h = (h.0, all_take P k xs h.1)
@@ -154,16 +137,10 @@ table_fewer rows lens count k t l =
       reads = subst (All ReadHolds) (take-take k count (used rows lens) l) (all_take ReadHolds k (rows_of rows lens count) t.reads);
     }
 
--- a read in a lower row holds it: it is dropped
-pub gone_earlier : (rows : List (List ℕ)) (lens : List ℕ) (count i : ℕ) → true ≡ held_from rows lens i 0 → true ≡ gone rows lens count i
+-- a read is dropped for a read in a lower row that holds it, and else for a longer one in a higher row
+pub gone_where : (rows : List (List ℕ)) (lens : List ℕ) (count i : ℕ) → gone rows lens count i ≡ held_from rows lens i 0 || longer_from rows lens count i (i + 1)
 unfolding gone
-gone_earlier rows lens count i e = ap (λ (b : Bool). b || longer_from rows lens count i (i + 1)) e
-
--- no read in a lower row holds it: the longer ones in higher rows decide
-pub gone_later : (rows : List (List ℕ)) (lens : List ℕ) (count i : ℕ) → false ≡ held_from rows lens i 0 →
-    longer_from rows lens count i (i + 1) ≡ gone rows lens count i
-unfolding gone
-gone_later rows lens count i e = ap (λ (b : Bool). b || longer_from rows lens count i (i + 1)) e
+gone_where rows lens count i = refl
 
 -- a list filled from the front with the values of a function, one store a turn
 pub fill_turn : (f : ℕ → Bool) (l : List Bool) (i : ℕ) (v : Bool) → i < length l → ((k : ℕ) → k < i → get_or l k false ≡ f k) → v ≡ f i → (k : ℕ) →

@@ -1,8 +1,8 @@
 -- Document 01, "The reads of the form fill a table of reads, a row each, lengths beside it": what the table stands for, and what holds of one.
-use Rattle.std.specs.Prelude.{ℕ, ◌+◌, ◌≤◌, ◌<◌, ◌≡◌, List, [], ◌∷◌, ◌++◌, Bool, false, cond, ◌&&◌, ◌||◌, ltb, eqb, length, get_or, take, drop}
-use Rattle.mathematics.specs.Lists.{All, begins, holds, some_holds}
+use Rattle.std.specs.Prelude.{ℕ, ◌+◌, ◌≤◌, ◌<◌, ◌≡◌, List, [], ◌∷◌, Option, Some, None, Bool, false, cond, ◌||◌, eqb, length, get_or, take, drop}
+use Rattle.mathematics.specs.Lists.{All, some_holds}
 use Rattle.mathematics.specs.Prepare.{some_longer, overlap, Meeting, longer, longest_with}
-use Rattle.reads.specs.declared.Meeting.{Meeting as MeetingStruct}
+use Rattle.reads.specs.declared.meeting.Meeting.{Meeting as MeetingStruct}
 
 -- the size of the table: so many rows of so many numbers, as the code's arrays have it; no number in it is as high as a row is long
 abbrev pub table_rows : ℕ
@@ -14,10 +14,6 @@ row_length = 64
 -- the read in row i
 unfoldable pub row_at : List (List ℕ) → List ℕ → ℕ → List ℕ
 row_at rows lens i = take (get_or lens i 0) (get_or rows i [])
-
--- the read in row i from its place p on begins the read in row j from its place q on
-unfoldable pub runs : List (List ℕ) → List ℕ → ℕ → ℕ → ℕ → ℕ → Bool
-runs rows lens i p j q = begins (drop p (row_at rows lens i)) (drop q (row_at rows lens j))
 
 -- the used part of each row
 abbrev pub used : List (List ℕ) → List ℕ → List (List ℕ)
@@ -71,10 +67,6 @@ pub record Leaves (rows : List (List ℕ)) (lens : List ℕ) (count : ℕ) (rs :
 unfoldable pub held_from : List (List ℕ) → List ℕ → ℕ → ℕ → Bool
 held_from rows lens i j = some_holds (drop j (rows_of rows lens i)) (row_at rows lens i)
 
--- the read in row j is longer than the read in row i and holds it
-unfoldable pub longer_at : List (List ℕ) → List ℕ → ℕ → ℕ → Bool
-longer_at rows lens i j = ltb (length (row_at rows lens i)) (length (row_at rows lens j)) && holds (row_at rows lens j) (row_at rows lens i)
-
 -- one of the count reads, from the j-th on, is longer than the read in row i and holds it
 unfoldable pub longer_from : List (List ℕ) → List ℕ → ℕ → ℕ → ℕ → Bool
 longer_from rows lens count i j = some_longer (drop j (rows_of rows lens count)) (row_at rows lens i)
@@ -91,6 +83,11 @@ Marks rows lens count marks = (k : ℕ) → k < count → get_or marks k false �
 abbrev pub meeting : MeetingStruct → Meeting
 meeting p = record { shared = p.shared; i = p.i; j = p.j }
 
+-- the best pair so far as the mathematics' pair of reads; none is shared where there is no pair
+abbrev pub best_of : Option MeetingStruct → Meeting
+best_of (Some p) = meeting p
+best_of None = record { shared = 0; i = 0; j = 0 }
+
 -- the better of best and the pair of the rows i and j
 unfoldable pub next_at : List (List ℕ) → List ℕ → ℕ → ℕ → Meeting → Meeting
 next_at rows lens i j best =
@@ -99,10 +96,6 @@ next_at rows lens i j best =
 -- the longest with the read in row i, among the count reads from the j-th on, and best
 unfoldable pub with_from : List (List ℕ) → List ℕ → ℕ → ℕ → ℕ → Meeting → Meeting
 with_from rows lens count i j best = longest_with i (row_at rows lens i) j (drop j (rows_of rows lens count)) best
-
--- the read in row i, and behind it the read in row j without its first n numbers
-unfoldable pub join_of : List (List ℕ) → List ℕ → ℕ → ℕ → ℕ → List ℕ
-join_of rows lens i j n = row_at rows lens i ++ drop n (row_at rows lens j)
 
 -- p is where v stands in the rising list r, or would stand
 pub record Place (r : List ℕ) (v p : ℕ) : Type 0 where

@@ -2,65 +2,59 @@
 // can say what is read, so none says more than what a caller needs to go on.
 #![tactic(auto)]
 
-ghost use Rattle.std.specs.Prelude.{◌<◌};
-ghost use Rattle.io.specs.Counts.{IsPrefixLen};
+use forms::{Refused, Verdict};
 
-// A number that was read, where there was one.
-#[derive(Drop)]
-pub enum Next {
-    Number(u64),
-    End,
-}
-
-fn wide(x: u8) -> u64
-    ensures { result < 256 }
-{
-    x as u64
-}
-
-fn four(b: &[u8; 4]) -> u64 {
-    wide(b[0]) * 16777216 + wide(b[1]) * 65536 + wide(b[2]) * 256 + wide(b[3])
-}
-
-fn eight(b: &[u8; 8]) -> u64 {
-    wide(b[0]) * 72057594037927936
-        + wide(b[1]) * 281474976710656
-        + wide(b[2]) * 1099511627776
-        + wide(b[3]) * 4294967296
-        + wide(b[4]) * 16777216
-        + wide(b[5]) * 65536
-        + wide(b[6]) * 256
-        + wide(b[7])
+// The next N bytes, where there are so many.
+fn read_array<const N: usize>() -> Option<[u8; N]> {
+    let mut bytes = [0u8; N];
+    if io::read_full(0, &mut bytes) != N {
+        return None;
+    }
+    Some(bytes)
 }
 
 // The number that the next four bytes hold, high byte first.
-pub fn read_four() -> Next {
-    let mut bytes = [0u8; 4];
-    let got = io::read_full(0, &mut bytes);
-    if got != 4 {
-        return Next::End;
-    }
-    Next::Number(four(&bytes))
+pub fn read_four() -> Option<u32> {
+    Some(u32::from_be_bytes(read_array()?))
 }
 
 // The number that the next eight bytes hold, high byte first.
-pub fn read_eight() -> Next {
-    let mut bytes = [0u8; 8];
-    let got = io::read_full(0, &mut bytes);
-    if got != 8 {
-        return Next::End;
-    }
-    Next::Number(eight(&bytes))
+pub fn read_eight() -> Option<u64> {
+    Some(u64::from_be_bytes(read_array()?))
 }
 
-// Reads `length` bytes to the front of `buf`, fewer where the input ends and none where `buf` is too short, and answers how many.
-pub fn read_part(buf: &mut [u8], length: usize) -> usize
-    ensures { IsPrefixLen result buf.new }
-{
+// Reads a byte string to the front of `buf`, its length in four bytes before it, and hands it out. There is none where the input ends
+// before its end, and none where `buf` is too short.
+pub fn read_string(buf: &mut [u8]) -> Option<&[u8]> {
+    let length = read_four()? as usize;
     if length > buf.len() {
-        return 0;
+        return None;
     }
-    io::read_full(0, &mut buf[..length])
+    let string = &mut buf[..length];
+    if io::read_full(0, string) != length {
+        return None;
+    }
+    Some(string)
+}
+
+// Runs what stands in the input, one after the other, until `run` says by a None that it has ended. A proved loop has to end, and nothing says that the
+// input does. So the loop counts its turns, up to a number that no run uses up.
+pub fn run_all<F: FnMut() -> Option<()>>(mut run: F)
+    requires { F.IsAlwaysCallable run }
+{
+    for _ in 0..u64::MAX {
+        if run().is_none() {
+            return;
+        }
+    }
+}
+
+// Number and place of what a call answers; both are 0 where nothing is refused.
+pub fn verdict<T>(answer: &Result<T, Refused>) -> Verdict {
+    match answer {
+        Ok(_) => Verdict::new(0, 0),
+        Err(refused) => Verdict::from(*refused),
+    }
 }
 
 // Prints a line's first number.
@@ -74,16 +68,10 @@ pub fn print_next(number: usize) {
     io::print_decimal(1, number as u64);
 }
 
-fn print_byte(byte: u8) {
-    print_next(byte as usize);
-}
-
 // Prints the bytes of a part, as further numbers of a line.
 pub fn print_bytes(part: &[u8]) {
-    let mut i = 0;
-    while i < part.len() {
-        print_byte(part[i]);
-        i += 1;
+    for &byte in part {
+        print_next(usize::from(byte));
     }
 }
 

@@ -1,25 +1,16 @@
 -- Walking along a path of an answer: what one step adds to the totals, and the laws of the loop that walks.
-use Prim.Native.Nat.{ℕ, suc, ◌+◌, ◌-◌, ◌*◌, ◌<◌, ◌≤◌}
-use native.Mathlib.Nat.{le_refl, zero-add, add-zero, sub-zero, mul-zero, mul-le-mul_left}
-use native.Mathlib.Decide.{ℕ_discrete}
-use native.Mathlib.Omega.{arith}
-use mathlib.Core.Path.{◌≡◌, refl, sym, ap, subst, ◌∙◌}
-use mathlib.Core.List.{List, [], ◌∷◌}
-use mathlib.Core.Bool.{Bool, true, false, ◌&&◌, and-false}
-use lib.Dec.{T}
-use lib.ListN.{length, get_or, set, length-set}
-use lib.Seq.{get_or-set_same, get_or-set_other}
-use lib.IntN.{ℤ, pos, ◌+ℤ◌, +ℤ_assoc, +ℤ_idl, +ℤ_idr}
-use borrow.Author.Tests.{lt-ltb, le-ltb}
+use Rattle.std.proofs.Common.{ℕ, suc, ◌+◌, ◌-◌, ◌*◌, ◌<◌, ◌≤◌, le_refl, zero-add, add-zero, mul-zero, mul-le-mul_left, arith, add-one, ◌≡◌, refl, sym, ap, subst, ◌∙◌, List, [], ◌∷◌, Bool, true, false, ◌&&◌, T, length, get_or, take, drop, set, length-set, length-drop, drop_of_length-le, get_or-set_same, get_or-set_other, drop-cons, ℤ, pos, ◌+ℤ◌, lt-ltb, Some, None}
+use Rattle.std.proofs.Math.Decide.{ℕ_discrete}
+use Rattle.std.proofs.Math.Bool.{and-false}
+use Rattle.std.proofs.Math.Seq.{take-length}
+use Rattle.std.proofs.Math.IntN.{+ℤ_assoc, +ℤ_idl, +ℤ_idr}
 use Rattle.mathematics.specs.Price.{whole}
 use Rattle.mathematics.specs.Graph.{Arc, has_arc, is_start, is_end, is_path}
 use Rattle.mathematics.specs.Cover.{Item, vert, count_of, trail, cost_of, arc_costs}
 use Rattle.mathematics.proofs.Basics.{and_r}
 use Rattle.mathematics.proofs.Parts.{Rising}
 use Rattle.mathematics.proofs.Linked.{path_rising}
-use Rattle.forms.specs.declared.Found.TheVariants.{At, Missing}
 use Rattle.forms.specs.ArcTable.{arc_number}
-use Rattle.forms.specs.Bytes.{byte, part}
 use Rattle.forms.specs.GraphFaults.{all_below}
 use Rattle.forms.specs.GraphForm.{vertex_count, arc_count, arc_at, arc_cost}
 use Rattle.forms.specs.GraphOf.{graph_of, arcs_of, arc_item}
@@ -29,10 +20,9 @@ use Rattle.forms.specs.Limits.{room_vertices, room_arcs, max_cost}
 use Rattle.certify.specs.Growth.{onward, Grown}
 use Rattle.tally.specs.Tally.{goes_on_to, TotalsFit, WalkTallied, PathWalked}
 use Rattle.forms.proofs.LayoutLaws.{vertices_room, arcs_room, reads_room, weight_limit_lem, path_length_limit}
-use Rattle.forms.proofs.PartLaws.{part_cons, part_none, part_length}
 use Rattle.forms.proofs.GraphFacts.{graph_well_formed}
 use Rattle.forms.proofs.WalkLaws.{is_at, found_is}
-use Rattle.certify.proofs.GrowthLaws.{TheArc, found_arc, only_arc, grow, count_few, length_onward, trail_onward}
+use Rattle.certify.proofs.GrowthLaws.{TheArc, found_arc, head_inside, only_arc, grow, count_few, length_onward, trail_onward}
 
 -- a path and the weights of an answer are no longer and no greater than the tables and numbers here have room for
 module _ (s : List ℕ) where
@@ -44,10 +34,6 @@ module _ (s : List ℕ) where
 
 -- what goes on from u to v and from there along q
 module _ (s : List ℕ) (u v : ℕ) (q : List ℕ) where
-  goes_outside : vertex_count s ≤ v → goes_on_to s u (v ∷ q) ≡ false
-  unfolding goes_on_to
-  goes_outside h = rw (le-ltb v (vertex_count s) h)
-
   goes_nowhere : has_arc (arcs_of s) u v ≡ false → goes_on_to s u (v ∷ q) ≡ false
   unfolding goes_on_to
   goes_nowhere h = rw h (and-false (all_below (vertex_count s) (v ∷ q)))
@@ -78,31 +64,31 @@ walk_fails e =
     never : false ≡ true → ⊥
     never q = let z : ◌≡◌ {A = ℕ} 0 1 = cc in omega arith
 
--- Of the lb vertices at b those from j on are left, after u: they decide, and with what they add the totals and the costs are those of all.
-pub record WalkLeft (s t : List ℕ) (b lb from weight : ℕ) (vb vt ab at : List ℕ) (u cost j : ℕ) : Type 0 where
-  pub within : (j ≤ lb) × (u < vertex_count s) × (length vt ≡ room_vertices) × (length at ≡ room_arcs) × (cost ≤ max_cost * j)
-  pub decide : goes_on_to s from (part t b lb) ≡ goes_on_to s u (part t (b + j) (lb - j))
-  pub vertices : (x : ℕ) → x < room_vertices → get_or vt x 0 + weight * count_of (vert x) (onward u (part t (b + j) (lb - j))) ≡ get_or vb x 0 + weight * count_of (vert x) (onward from (part t b lb))
-  pub arcs : (k : ℕ) → k < arc_count s → get_or at k 0 + weight * count_of (arc_item s k) (onward u (part t (b + j) (lb - j))) ≡ get_or ab k 0 + weight * count_of (arc_item s k) (onward from (part t b lb))
-  pub costs : pos cost +ℤ arc_costs whole (arcs_of s) (u ∷ part t (b + j) (lb - j)) ≡ arc_costs whole (arcs_of s) (from ∷ part t b lb)
+-- Of the vertices of p those from j on are left, after u: they decide, and with what they add the totals and the costs are those of all.
+pub record WalkLeft (s p : List ℕ) (from weight : ℕ) (vb vt ab at : List ℕ) (u cost j : ℕ) : Type 0 where
+  pub within : (j ≤ length p) × (u < vertex_count s) × (length vt ≡ room_vertices) × (length at ≡ room_arcs) × (cost ≤ max_cost * j)
+  pub decide : goes_on_to s from p ≡ goes_on_to s u (drop j p)
+  pub vertices : (x : ℕ) → x < room_vertices → get_or vt x 0 + weight * count_of (vert x) (onward u (drop j p)) ≡ get_or vb x 0 + weight * count_of (vert x) (onward from p)
+  pub arcs : (k : ℕ) → k < arc_count s → get_or at k 0 + weight * count_of (arc_item s k) (onward u (drop j p)) ≡ get_or ab k 0 + weight * count_of (arc_item s k) (onward from p)
+  pub costs : pos cost +ℤ arc_costs whole (arcs_of s) (u ∷ drop j p) ≡ arc_costs whole (arcs_of s) (from ∷ p)
 
-pub walk_begin : {s t : List ℕ} {b lb from weight : ℕ} {vb ab : List ℕ} → from < vertex_count s → TotalsFit s vb ab weight (2 * room_vertices + 1) → WalkLeft s t b lb from weight vb vb ab ab from 0 0
+pub walk_begin : {s p : List ℕ} {from weight : ℕ} {vb ab : List ℕ} → from < vertex_count s → TotalsFit s vb ab weight (2 * room_vertices + 1) → WalkLeft s p from weight vb vb ab ab from 0 0
 walk_begin h room =
     record {
       within = omega (arith, room.vertices_long, room.arcs_long);
-      decide = rw (add-zero, sub-zero);
-      vertices = λ x l. rw (add-zero, sub-zero);
-      arcs = λ k l. rw (add-zero, sub-zero);
-      costs = rw (add-zero, sub-zero) (+ℤ_idl _);
+      decide = refl;
+      vertices = λ x l. refl;
+      arcs = λ k l. refl;
+      costs = +ℤ_idl _;
     }
 
-module _ {s t : List ℕ} {b lb from weight : ℕ} {vb vt ab at : List ℕ} {u cost j : ℕ} (inv : WalkLeft s t b lb from weight vb vt ab at u cost j) where
+module _ {s p : List ℕ} {from weight : ℕ} {vb vt ab at : List ℕ} {u cost j : ℕ} (inv : WalkLeft s p from weight vb vt ab at u cost j) where
   -- a total has room for the weight: what was added so far is no more than what the whole path adds
-  module _ (fits : b + lb ≤ length t) (short : lb + 1 ≤ room_vertices) (room : TotalsFit s vb ab weight (2 * room_vertices + 1)) where
-    few : (i : Item) → weight * count_of i (onward from (part t b lb)) ≤ weight * (2 * room_vertices)
+  module _ (short : length p + 1 ≤ room_vertices) (room : TotalsFit s vb ab weight (2 * room_vertices + 1)) where
+    few : (i : Item) → weight * count_of i (onward from p) ≤ weight * (2 * room_vertices)
     few i =
         mul-le-mul_left weight
-        (omega (arith, count_few i (onward from (part t b lb)), length_onward from (part t b lb), part_length t b lb fits))
+        (omega (arith, count_few i (onward from p), length_onward from p))
 
     pub vertex_room : (x : ℕ) → x < room_vertices → get_or vt x 0 + weight < 18446744073709551616
     vertex_room x l = omega (arith, inv.vertices x l, few (vert x), room.vertices_low x l, room.low_weight, weight_low s)
@@ -110,55 +96,57 @@ module _ {s t : List ℕ} {b lb from weight : ℕ} {vb vt ab at : List ℕ} {u c
     pub arc_room : (k : ℕ) → k < arc_count s → get_or at k 0 + weight < 18446744073709551616
     arc_room k l = omega (arith, inv.arcs k l, few (arc_item s k), room.arcs_low k l, room.low_weight, weight_low s)
 
-  module _ (fits : b + lb ≤ length t) (more : j < lb) {v : ℕ} (read : v ≡ byte t (b + j)) where
-    rest : part t (b + j) (lb - j) ≡ v ∷ part t (b + (j + 1)) (lb - (j + 1))
-    rest =
-        let e₁ : b + j + 1 ≡ b + (j + 1) = omega arith in
-        let e₂ : lb - j - 1 ≡ lb - (j + 1) = omega arith in
-        part_cons t (b + j) (lb - j) (omega arith) (omega arith) ∙ rw (e₁, e₂, read)
+  module _ (more : j < length p) {v : ℕ} (read : v ≡ get_or p j 0) where
+    rest : drop j p ≡ v ∷ drop (j + 1) p
+    rest = drop-cons p j 0 more ∙ rw (read, add-one j)
 
-    pub walk_outside : vertex_count s ≤ v → false ≡ goes_on_to s from (part t b lb)
-    walk_outside h = sym (inv.decide ∙ rw rest (goes_outside s u v _ h))
-
-    pub walk_nowhere : Missing ≡ arc_number (arcs_of s) u v → false ≡ goes_on_to s from (part t b lb)
+    pub walk_nowhere : None ≡ arc_number (arcs_of s) u v → false ≡ goes_on_to s from p
     walk_nowhere e = sym (inv.decide ∙ rw rest (goes_nowhere s u v _ (sym (ap is_at e ∙ found_is (arcs_of s) u v 0))))
 
-    module _ {k : ℕ} (right : ArcsRight s) (found : At k ≡ arc_number (arcs_of s) u v) (inside : v < vertex_count s) where
+    module _ {k : ℕ} (right : ArcsRight s) (found : Some k ≡ arc_number (arcs_of s) u v) where
       the : TheArc s u v k
       the = found_arc s u v right k found
 
-      vertex_turn : (x : ℕ) → x < room_vertices → get_or (set vt v (get_or vt v 0 + weight)) x 0 + weight * count_of (vert x) (onward v (part t (b + (j + 1)) (lb - (j + 1)))) ≡ get_or vb x 0 + weight * count_of (vert x) (onward from (part t b lb))
-      vertex_turn x l =
-          grow vt v weight x _ (omega (arith, right.header.vertices_room)) ∙ (rw (rest, zero-add) at (inv.vertices x l))
+      next_inside : v < vertex_count s
+      next_inside = head_inside u v right found
 
-      arc_turn : (i : ℕ) → i < arc_count s → get_or (set at k (get_or at k 0 + weight)) i 0 + weight * count_of (arc_item s i) (onward v (part t (b + (j + 1)) (lb - (j + 1)))) ≡ get_or ab i 0 + weight * count_of (arc_item s i) (onward from (part t b lb))
+      vertex_turn : (x : ℕ) → x < room_vertices → get_or (set vt v (get_or vt v 0 + weight)) x 0 + weight * count_of (vert x) (onward v (drop (j + 1) p)) ≡ get_or vb x 0 + weight * count_of (vert x) (onward from p)
+      vertex_turn x l =
+          grow vt v weight x _ (omega (arith, right.header.vertices_room, next_inside)) ∙ (rw (rest, zero-add) at (inv.vertices x l))
+
+      arc_turn : (i : ℕ) → i < arc_count s → get_or (set at k (get_or at k 0 + weight)) i 0 + weight * count_of (arc_item s i) (onward v (drop (j + 1) p)) ≡ get_or ab i 0 + weight * count_of (arc_item s i) (onward from p)
       arc_turn i l =
           grow at k weight i _ (omega (arith, right.header.arcs_room, the.inside))
           ∙ (rw (rest, only_arc s right u v k i the l, zero-add) at (inv.arcs i l))
 
-      pub walk_turn : {c : ℕ} → c ≡ arc_cost s (arc_at s k) → c ≤ max_cost → WalkLeft s t b lb from weight vb (set vt v (get_or vt v 0 + weight)) ab (set at k (get_or at k 0 + weight)) v (cost + c) (j + 1)
+      pub walk_turn : {c : ℕ} → c ≡ arc_cost s (arc_at s k) → c ≤ max_cost → WalkLeft s p from weight vb (set vt v (get_or vt v 0 + weight)) ab (set at k (get_or at k 0 + weight)) v (cost + c) (j + 1)
       walk_turn {c} e low =
           record {
-            within = simp length-set (omega arith);
-            decide = inv.decide ∙ rw rest (goes_along s u v _ inside the.has);
+            within = simp length-set (omega (arith, next_inside));
+            decide = inv.decide ∙ rw rest (goes_along s u v _ next_inside the.has);
             vertices = vertex_turn;
             arcs = arc_turn;
             costs =
-                cost_step (arcs_of s) u v (part t (b + (j + 1)) (lb - (j + 1))) cost c (the.cost ∙ ap pos (sym e))
+                cost_step (arcs_of s) u v (drop (j + 1) p) cost c (the.cost ∙ ap pos (sym e))
                 ∙ ap (λ q. pos cost +ℤ arc_costs whole (arcs_of s) (u ∷ q)) (sym rest)
                 ∙ inv.costs;
           }
 
-  module _ (h : lb ≤ j) where
-    over : part t (b + j) (lb - j) ≡ []
-    over =
-        let none : lb - j ≡ 0 = omega arith in
-        rw none (part_none t (b + j))
+  module _ (h : length p ≤ j) where
+    over : drop j p ≡ []
+    over = drop_of_length-le p {i = j} h
 
-    pub walk_end : {ok : Bool} → lb + 1 ≤ room_vertices → ok ≡ is_end (graph_of s) u → WalkTallied s (goes_on_to s from (part t b lb)) (onward from (part t b lb)) (from ∷ part t b lb) weight vb vt ab at ok cost
+    -- the last vertex decides
+    walk_ends : {ok : Bool} → ok ≡ is_end (graph_of s) u → ok ≡ goes_on_to s from p
+    walk_ends e = e ∙ sym (inv.decide ∙ rw over (goes_end s u))
+
+    pub walk_no_end : false ≡ is_end (graph_of s) u → WalkTallied s (goes_on_to s from p) (onward from p) (from ∷ p) weight vb vt ab at false 0
+    walk_no_end e = walk_fails (walk_ends e)
+
+    pub walk_end : length p + 1 ≤ room_vertices → true ≡ is_end (graph_of s) u → WalkTallied s (goes_on_to s from p) (onward from p) (from ∷ p) weight vb vt ab at true cost
     walk_end short e =
         record {
-          is_right = e ∙ sym (inv.decide ∙ rw over (goes_end s u));
+          is_right = walk_ends e;
           grown =
               λ z.
               record {
@@ -186,18 +174,16 @@ through_few i (u ∷ q) =
     let e : length (trail (u ∷ q)) ≡ suc (length (onward u q)) = ap length (trail_onward u q) in
     omega (arith, e, count_few i (trail (u ∷ q)), length_onward u q)
 
-module _ (s t : List ℕ) (b lb weight : ℕ) (vb ab : List ℕ) (some : 1 ≤ lb) (fits : b + lb ≤ length t) (u : ℕ) (read : u ≡ byte t b) where
-  opened : part t b lb ≡ u ∷ part t (b + 1) (lb - 1)
-  opened = part_cons t b lb some (omega arith) ∙ rw read
+-- a path by its first vertex and the others, as a slice gives them
+pub behind_length : (p : List ℕ) → length (take (length p - 1) (drop 1 p)) ≡ length p - 1
+behind_length p = rw (← length-drop 1 p, take-length)
 
-  pub path_outside : vertex_count s ≤ u → PathWalked s (part t b lb) weight vb vb ab ab false 0
-  path_outside h = walk_fails (rw (opened, le-ltb u (vertex_count s) h))
+pub opened : (p : List ℕ) {u : ℕ} → 1 ≤ length p → u ≡ get_or p 0 0 → p ≡ u ∷ take (length p - 1) (drop 1 p)
+opened p some read = drop-cons p 0 0 some ∙ rw (read, ← length-drop 1 p, take-length)
 
-  pub path_no_start : is_start (graph_of s) u ≡ false → PathWalked s (part t b lb) weight vb vb ab ab false 0
-  path_no_start e = walk_fails (rw (opened, e) (sym (and-false (all_below (vertex_count s) (u ∷ part t (b + 1) (lb - 1))))))
-
+module _ (s : List ℕ) {p : List ℕ} (weight : ℕ) (vb ab : List ℕ) (u : ℕ) (q : List ℕ) (opened : p ≡ u ∷ q) where
   module _ (inside : u < vertex_count s) (start : is_start (graph_of s) u ≡ true) (few : vertex_count s ≤ room_vertices) where
-    path_is : goes_on_to s u (part t (b + 1) (lb - 1)) ≡ (all_below (vertex_count s) (u ∷ part t (b + 1) (lb - 1)) && is_path (graph_of s) (u ∷ part t (b + 1) (lb - 1)))
+    path_is : goes_on_to s u q ≡ (all_below (vertex_count s) (u ∷ q) && is_path (graph_of s) (u ∷ q))
     unfolding goes_on_to graph_of
     path_is = rw (lt-ltb u (vertex_count s) inside, start)
 
@@ -215,20 +201,20 @@ module _ (s t : List ℕ) (b lb weight : ℕ) (vb ab : List ℕ) (some : 1 ≤ l
         higher x l (yes e) = rw (e, get_or-set_same vb u (get_or vb u 0 + weight) 0 (omega (arith, room.vertices_long))) (omega (arith, room.vertices_low u (omega arith), room.low_weight))
         higher x l (no e) = rw (get_or-set_other vb u x (get_or vb u 0 + weight) 0 e) (omega (arith, room.vertices_low x l))
 
-    module _ (va aa : List ℕ) (ok : Bool) (cost : ℕ) (long : length vb ≡ room_vertices) (on : WalkTallied s (goes_on_to s u (part t (b + 1) (lb - 1))) (onward u (part t (b + 1) (lb - 1))) (u ∷ part t (b + 1) (lb - 1)) weight (set vb u (get_or vb u 0 + weight)) va ab aa ok cost) where
-      path_grown : Grown s weight (onward u (part t (b + 1) (lb - 1))) (set vb u (get_or vb u 0 + weight)) va ab aa → Grown s weight (vert u ∷ onward u (part t (b + 1) (lb - 1))) vb va ab aa
+    module _ (va aa : List ℕ) (ok : Bool) (cost : ℕ) (long : length vb ≡ room_vertices) (on : WalkTallied s (goes_on_to s u q) (onward u q) (u ∷ q) weight (set vb u (get_or vb u 0 + weight)) va ab aa ok cost) where
+      path_grown : Grown s weight (onward u q) (set vb u (get_or vb u 0 + weight)) va ab aa → Grown s weight (vert u ∷ onward u q) vb va ab aa
       path_grown g =
           record {
             vertices_long = g.vertices_long;
             arcs_long = g.arcs_long;
-            vertices = λ x l. g.vertices x l ∙ grow vb u weight x (count_of (vert x) (onward u (part t (b + 1) (lb - 1)))) (omega arith);
+            vertices = λ x l. g.vertices x l ∙ grow vb u weight x (count_of (vert x) (onward u q)) (omega arith);
             arcs = λ k l. g.arcs k l ∙ rw zero-add;
           }
 
-      pub path_walked : PathWalked s (part t b lb) weight vb va ab aa ok cost
+      pub path_walked : PathWalked s p weight vb va ab aa ok cost
       path_walked =
           rw opened
-          (rw (trail_onward u (part t (b + 1) (lb - 1)), ← path_is)
+          (rw (trail_onward u q, ← path_is)
           (record {
             is_right = on.is_right;
             grown = λ z. path_grown (on.grown z);

@@ -1,6 +1,6 @@
 -- What one path of an answer adds to the tallies: for each vertex and arc on it its weight, for each read that it holds that it is met, and the costs of its arcs.
 -- Document 01: "the weights of the paths through it total at least its demand, and each read is satisfied by some path".
-use Rattle.std.specs.Prelude.{ℕ, ◌*◌, ◌<◌, ◌≤◌, ◌≡◌, List, [], ◌∷◌, Bool, true, false, ◌&&◌, ◌||◌, length, get_or, pos}
+use Rattle.std.specs.Prelude.{ℕ, ◌*◌, ◌<◌, ◌≤◌, ◌≡◌, List, [], ◌∷◌, Bool, true, false, ◌&&◌, ◌||◌, length, get_or, pos, Option, Some, None}
 use Rattle.mathematics.specs.Price.{whole}
 use Rattle.mathematics.specs.Lists.{last_of, holds}
 use Rattle.mathematics.specs.Graph.{linked, is_path, is_end}
@@ -39,6 +39,11 @@ pub record WalkTallied (s : List ℕ) (right : Bool) (items : List Item) (p : Li
   pub grown : ok ≡ true → Grown s weight items vb va ab aa
   pub costs : ok ≡ true → pos cost ≡ arc_costs whole (arcs_of s) p
   pub low_cost : ok ≡ true → cost ≤ max_cost * room_vertices
+
+-- the costs that a walk answers: "for an answer that is an enum, a definition gives this paper's number and values for each case"; whether the path is right says `is_some`
+abbrev pub costs_of : Option ℕ → ℕ
+costs_of (Some cost) = cost
+costs_of None = 0
 
 -- what walking along a whole path gives
 abbrev pub PathWalked : List ℕ → List ℕ → ℕ → List ℕ → List ℕ → List ℕ → List ℕ → Bool → ℕ → Type 0

@@ -2,161 +2,86 @@
 // path by path.
 #![tactic(auto)]
 
-ghost use Rattle.std.specs.Prelude.{◌≡◌, ◌+◌, ◌*◌, ◌<◌, ◌≤◌, ◌∷◌, ◌||◌, length};
+ghost use Rattle.std.specs.Prelude.{◌≡◌, ◌*◌, ◌<◌, ◌≤◌, ◌≢◌, ℕ, length, slice_index, MatchOption};
+ghost use Rattle.std.specs.Option.{is_some};
 ghost use Rattle.mathematics.specs.Lists.{holds, Rising};
 ghost use Rattle.forms.specs.ArcTable.{ArcTable};
-ghost use Rattle.forms.specs.Bytes.{part};
-ghost use Rattle.forms.specs.GraphForm.{vertex_count};
 ghost use Rattle.forms.specs.GraphReads.{Reads};
 ghost use Rattle.forms.specs.Limits.{room_vertices, room_reads};
 ghost use Rattle.forms.specs.Roles.{Roles};
-ghost use Rattle.certify.specs.Growth.{onward};
-ghost use Rattle.tally.specs.Tally.{ReadsMet, TotalsFit, WalkTallied, PathWalked, goes_on_to};
+ghost use Rattle.tally.specs.Tally.{ReadsMet, TotalsFit, PathWalked, costs_of};
 
+use forms::Graph;
 use forms::arcs::find_arc;
-use forms::bytes::wide;
 use forms::fields::{
-    arc_cost, first_arc_at, first_read_at, read_count, read_end, read_length, read_vertices_at,
-    vertex_count,
+    arc_cost, first_arc_at, first_read_at, read_count, read_end, read_vertices_at, vertex_count,
 };
-use forms::roles::{is_end, is_start};
-use forms::{Found, Graph};
+use forms::roles::{Role, is_end, is_start};
 
-// Whether the lb bytes of t at b hold the la bytes of s at a consecutively. Those of t rise, so a read that is left after its first vertex stands nowhere else.
-fn holds_read(s: &[u8], a: usize, la: usize, t: &[u8], b: usize, lb: usize) -> bool
-    requires { (a + la ≤ length s.now) × (b + lb ≤ length t.now) × (0 < la) × Rising (part t.now b lb) }
-    ensures { result ≡ holds (part t.now b lb) (part s.now a la) }
+// Where the path passes v.
+fn place_of(path: &[u8], v: u8) -> Option<usize>
+    ensures { MatchOption result ((k : ℕ) → k < length path.now → slice_index path.now k ≢ v) (λ p. (p < length path.now) × (slice_index path.now p ≡ v)) }
 {
-    // How many of the read's vertices were met, one right behind the other.
-    let mut i = 0;
-    let mut j = 0;
-    while j < lb {
-        let x = s[a + i];
-        let y = t[b + j];
-        j += 1;
-        if x == y {
-            i += 1;
-            if i == la {
-                return true;
-            }
-            continue;
-        }
-        if 0 < i {
-            return false;
-        }
-    }
-    false
+    path.iter().position(|x| *x == v)
 }
 
-// Whether a read that was met by a path before, or not, is met now: the path is looked at only where the read was not.
-fn met_now(met: bool, s: &[u8], a: usize, la: usize, t: &[u8], b: usize, lb: usize) -> bool
-    requires { (a + la ≤ length s.now) × (b + lb ≤ length t.now) × (0 < la) × Rising (part t.now b lb) }
-    ensures { result ≡ (met || holds (part t.now b lb) (part s.now a la)) }
+// Whether the path holds the read's vertices consecutively. The path rises, so the read stands where its first vertex stands, or nowhere.
+fn holds_read(path: &[u8], read: &[u8]) -> bool
+    requires { Rising path.now × (0 < length read.now) }
+    ensures { result ≡ holds path.now read.now }
 {
-    if met {
-        return true;
+    match place_of(path, read[0]) {
+        Some(p) => path[p..].starts_with(read),
+        None => false,
     }
-    holds_read(s, a, la, t, b, lb)
 }
 
-// Marks the reads that the path of lb vertices at b holds. Reads are walked by their records.
-pub fn mark_reads(s: &[u8], t: &[u8], b: usize, lb: usize, met: &mut [bool; Graph::ROOM_READS])
-    requires { Reads s.now × (b + lb ≤ length t.now) × (length met.old ≡ room_reads) × Rising (part t.now b lb) }
-    ensures { ReadsMet s.now (part t.now b lb) met.old met.new }
+// Marks the reads that the path holds: one that was met by a path before is not looked for again. Reads are walked by their records.
+pub fn mark_reads(s: &[u8], path: &[u8], met: &mut [bool; Graph::ROOM_READS])
+    requires { Reads s.now × (length met.old ≡ room_reads) × Rising path.now }
+    ensures { ReadsMet s.now path.now met.old met.new }
 {
-    let count = read_count(s);
     let mut at = first_read_at(s);
-    let mut r = 0;
-    while r < count {
-        let la = read_length(s, at);
-        met[r] = met_now(met[r], s, read_vertices_at(s, at), la, t, b, lb);
-        at = read_end(s, at);
-        r += 1;
+    for r in 0..read_count(s) {
+        let end = read_end(s, at);
+        met[r] = met[r] || holds_read(path, &s[read_vertices_at(s, at)..end]);
+        at = end;
     }
 }
 
-// What walking along a path gives: whether it is a path of the graph, and the costs of its arcs.
-#[derive(Drop)]
-pub struct Walk {
-    pub ok: bool,
-    pub cost: usize,
-}
-
-// Walks on from vertex u, which is counted already, along lb vertices at b: one look for an arc with each.
-fn walk_on(
-    s: &[u8],
-    first: &[u16; Graph::ROOM_VERTICES + 1],
-    roles: &[u8; Graph::ROOM_VERTICES],
-    t: &[u8],
-    b: usize,
-    lb: usize,
-    from: usize,
-    weight: usize,
-    vertex_totals: &mut [usize; Graph::ROOM_VERTICES],
-    arc_totals: &mut [usize; Graph::ROOM_ARCS],
-) -> Walk
-    requires reads { Reads s.now × ArcTable s.now first.now × Roles s.now roles.now × (from < vertex_count s.now) }
-    requires lb_bound { (lb + 1 ≤ room_vertices) × (b + lb ≤ length t.now) × TotalsFit s.now vertex_totals.old arc_totals.old weight (2 * room_vertices + 1) }
-    ensures { WalkTallied s.now (goes_on_to s.now from (part t.now b lb)) (onward from (part t.now b lb)) (from ∷ part t.now b lb) weight vertex_totals.old vertex_totals.new arc_totals.old arc_totals.new result.ok result.cost }
-{
-    let n = vertex_count(s);
-    let base = first_arc_at(s);
-    let mut u = from;
-    let mut cost = 0;
-    let mut j = 0;
-    while j < lb {
-        let v = wide(t[b + j]);
-        if n <= v {
-            return Walk { ok: false, cost: 0 };
-        }
-        let found = find_arc(s, first, u, v);
-        let Found::At(k) = found else {
-            return Walk { ok: false, cost: 0 };
-        };
-        arc_totals[k] = arc_totals[k] + weight;
-        vertex_totals[v] = vertex_totals[v] + weight;
-        cost += arc_cost(s, base, k);
-        u = v;
-        j += 1;
-    }
-    let ok = is_end(s, roles, u);
-    Walk { ok, cost }
-}
-
-// Walks along the path of lb vertices at b, whose weight is added to the totals of the vertices and arcs on it.
+// Walks along a path, one look for an arc with each vertex behind the first, and adds its weight to the totals of the vertices and arcs on it: the costs of its arcs, where it is
+// a path of the graph. Where it is none, the totals are of no use any more.
 pub fn walk_path(
     s: &[u8],
     first: &[u16; Graph::ROOM_VERTICES + 1],
-    roles: &[u8; Graph::ROOM_VERTICES],
-    t: &[u8],
-    b: usize,
-    lb: usize,
+    roles: &[Role; Graph::ROOM_VERTICES],
+    path: &[u8],
     weight: usize,
     vertex_totals: &mut [usize; Graph::ROOM_VERTICES],
     arc_totals: &mut [usize; Graph::ROOM_ARCS],
-) -> Walk
-    requires reads { Reads s.now × ArcTable s.now first.now × Roles s.now roles.now × (1 ≤ lb) × (lb ≤ room_vertices) }
-    requires lb_in_bounds { (b + lb ≤ length t.now) × TotalsFit s.now vertex_totals.old arc_totals.old weight (2 * room_vertices) }
-    ensures { PathWalked s.now (part t.now b lb) weight vertex_totals.old vertex_totals.new arc_totals.old arc_totals.new result.ok result.cost }
+) -> Option<usize>
+    requires reads { Reads s.now × ArcTable s.now first.now × Roles s.now roles.now × (1 ≤ length path.now) × (length path.now ≤ room_vertices) }
+    requires totals { TotalsFit s.now vertex_totals.old arc_totals.old weight (2 * room_vertices) }
+    ensures { PathWalked s.now path.now weight vertex_totals.old vertex_totals.new arc_totals.old arc_totals.new (is_some result) (costs_of result) }
 {
-    let u = wide(t[b]);
-    if vertex_count(s) <= u {
-        return Walk { ok: false, cost: 0 };
+    let base = first_arc_at(s);
+    let mut u = usize::from(path[0]);
+    if vertex_count(s) <= u || !is_start(s, roles, u) {
+        return None;
     }
-    if !is_start(s, roles, u) {
-        return Walk { ok: false, cost: 0 };
+    vertex_totals[u] += weight;
+    let mut cost = 0;
+    for next in &path[1..] {
+        let v = usize::from(*next);
+        let k = find_arc(s, first, u, v)?;
+        arc_totals[k] += weight;
+        vertex_totals[v] += weight;
+        cost += arc_cost(s, base, k);
+        u = v;
     }
-    vertex_totals[u] = vertex_totals[u] + weight;
-    walk_on(
-        s,
-        first,
-        roles,
-        t,
-        b + 1,
-        lb - 1,
-        u,
-        weight,
-        vertex_totals,
-        arc_totals,
-    )
+    if is_end(s, roles, u) {
+        Some(cost)
+    } else {
+        None
+    }
 }

@@ -1,14 +1,8 @@
 -- The digits of a number, found from the last to the first: what the loop that stores them keeps from turn to turn.
-use Prim.Native.Nat.{ℕ, zero, suc, ◌+◌, ◌-◌, ◌*◌, ◌/◌, ◌%◌, ◌^◌, ◌≤◌, ◌<◌}
-use native.Mathlib.Nat.{le_refl, pow-suc}
-use native.Mathlib.Omega.{arith}
-use mathlib.Core.Path.{◌≡◌, refl, ap, ap₂, subst, ◌∙◌}
-use mathlib.Core.List.{List, ◌∷◌}
-use mathlib.Core.Bool.{Bool, true, false, cond}
-use lib.ListN.{length, take, drop, set, length-set, length-drop, drop_of_length-le}
-use lib.Seq.{take_all, drop-cons, drop-set-lt, get_or-set_same, lt-length-set}
-use borrow.Author.Tests.{lt-ltb, le-ltb}
-use Rattle.text.specs.Text.{digits_before, decimal}
+use Rattle.std.proofs.Common.{ℕ, zero, suc, ◌+◌, ◌-◌, ◌*◌, ◌/◌, ◌%◌, ◌^◌, ◌≤◌, ◌<◌, ◌≡◌, refl, sym, ap, ap₂, ◌∙◌, Bool, true, false, cond, ltb, List, [], ◌∷◌, ◌++◌, length, take, drop, set, take-append-drop, length-append, drop-cons, drop-set-lt, get_or-set_same, lt-length-set, le_refl, pow-suc, arith, ltb-true}
+use Rattle.std.proofs.lemmas.List.{take-set-le}
+use Rattle.text.specs.Text.{digit, digits_before, decimal, TextFits, Puts}
+use Rattle.text.proofs.Storing.{set_whole}
 
 -- a byte stored in front of the last ones
 drop_set : (l : List ℕ) (j v : ℕ) → j < length l → drop j (set l j v) ≡ v ∷ drop (suc j) l
@@ -33,51 +27,87 @@ one_digit_less (suc j) n l h =
     let less : n / 10 < 10 ^ j = omega arith in
     rw e (some_digit j (n / 10) (omega arith) less, less)
 
--- the digits of n from the place `first` on are stored, and the digits of `rest` are still to come before them
-pub record DigitsLeft (n first rest : ℕ) (digits : List ℕ) : Type 0 where
-  pub some : 1 ≤ first
-  pub few : first ≤ 20
-  pub below : rest < 10 ^ first
-  pub long : length digits ≡ 20
-  pub whole : digits_before first rest (drop first digits) ≡ decimal n
+both_followed : (b : Bool) (x y x' y' after : List ℕ) → x ≡ x' ++ after → y ≡ y' ++ after → cond b x y ≡ cond b x' y' ++ after
+both_followed true x y x' y' after p q = p
+both_followed false x y x' y' after p q = q
 
-pub digits_start : (n : ℕ) (digits : List ℕ) → length digits ≡ 20 → n < 10 ^ 20 → DigitsLeft n 20 n digits
+-- what stands behind a number's digits follows them
+digits_followed : (places n : ℕ) (more after : List ℕ) → digits_before places n (more ++ after) ≡ digits_before places n more ++ after
+unfolding digits_before
+digits_followed zero n more after = refl
+digits_followed (suc places) n more after =
+    let d = digit (n % 10) in
+    both_followed (ltb n 10) (digit n ∷ (more ++ after)) (digits_before places (n / 10) (d ∷ (more ++ after))) (digit n ∷ more) (digits_before places (n / 10) (d ∷ more)) after
+    refl (digits_followed places (n / 10) (d ∷ more) after)
+
+-- and adds its own length
+pub digits_before_lem : (places n : ℕ) (after : List ℕ) → length (digits_before places n after) ≡ length (digits_before places n []) + length after
+digits_before_lem places n after = ap length (digits_followed places n [] after) ∙ length-append (digits_before places n []) after
+
+-- so many digits of a number, found from the last to the first, in front of what follows
+pub last_digits : ℕ → ℕ → List ℕ → List ℕ
+last_digits zero n after = after
+last_digits (suc more) n after = last_digits more (n / 10) (digit (n % 10) ∷ after)
+
+turned : (b : Bool) (n : ℕ) (x y x' y' after : List ℕ) → (b ≡ true → x ≡ last_digits (length x') n after) → (b ≡ false → y ≡ last_digits (length y') n after) →
+    cond b x y ≡ last_digits (length (cond b x' y')) n after
+turned true n x y x' y' after f g = f refl
+turned false n x y x' y' after f g = g refl
+
+-- as many as the number's text has make that text
+digits_turn : (places n : ℕ) (after : List ℕ) → digits_before places n after ≡ last_digits (length (digits_before places n [])) n after
+unfolding digits_before last_digits
+digits_turn zero n after = refl
+digits_turn (suc places) n after =
+    let d = digit (n % 10) in
+    let long : length (digits_before places (n / 10) (d ∷ [])) ≡ suc (length (digits_before places (n / 10) [])) = omega (arith, digits_before_lem places (n / 10) (d ∷ [])) in
+    turned (ltb n 10) n (digit n ∷ after) (digits_before places (n / 10) (d ∷ after)) (digit n ∷ []) (digits_before places (n / 10) (d ∷ [])) after
+    (λ e. ap (λ k. k ∷ after) (omega (arith, ltb-true n 10 e)))
+    (λ e. digits_turn places (n / 10) (d ∷ after) ∙ ap (λ k. last_digits k n after) (sym long))
+
+-- the places before `place` are as they were, and behind its last ones, which are stored, the digits of `rest` make the text with them
+pub record DigitsLeft (before : List ℕ) (at end n place rest : ℕ) (out : List ℕ) : Type 0 where
+  pub inside : at ≤ place
+  pub front : take at out ≡ take at before
+  pub whole : last_digits (place - at) rest (drop place out) ≡ decimal n ++ drop end before
+
+pub digits_start : {out : List ℕ} {at n many : ℕ} → many ≡ length (decimal n) → DigitsLeft out at (at + many) n (at + many) n out
 unfolding decimal
-digits_start n digits e h =
+digits_start {out} {at} {n} {many} e =
+    let all : at + many - at ≡ length (decimal n) = omega arith in
     record {
-      some = omega arith;
-      few = omega arith;
-      below = h;
-      long = e;
-      whole = ap (digits_before 20 n) (drop_of_length-le digits {i = 20} (omega arith));
-    }
-
-pub digits_turn : {n first rest : ℕ} {digits : List ℕ} → DigitsLeft n first rest digits → 9 < rest →
-    DigitsLeft n (first - 1) (rest / 10) (set digits (first - 1) (48 + rest % 10))
-unfolding digits_before
-digits_turn {n} {first} {rest} {digits} h l =
-    let e : first ≡ suc (first - 1) = omega (arith, h.some) in
-    let less = one_digit_less first rest l h.below in
-    let inside : first - 1 < length digits = omega (arith, h.long, h.few, h.some) in
-    record {
-      some = less.0;
-      few = omega (arith, h.few);
-      below = less.1;
-      long = length-set digits (first - 1) (48 + rest % 10) ∙ h.long;
+      inside = omega arith;
+      front = refl;
       whole =
-          ap (digits_before (first - 1) (rest / 10)) (drop_set digits (first - 1) (48 + rest % 10) inside) ∙
-          (simp (le-ltb rest 10 l) at (subst (λ k. digits_before k rest (drop k digits) ≡ decimal n) e h.whole));
+          ap (λ k. last_digits k n (drop (at + many) out)) all ∙
+          (sym (digits_turn 20 n (drop (at + many) out)) ∙ digits_followed 20 n [] (drop (at + many) out));
     }
 
--- and where one digit is left, it is stored and the text of n is done
-pub digits_end : {n first rest : ℕ} {digits : List ℕ} → DigitsLeft n first rest digits → rest ≤ 9 →
-    take (20 - (first - 1)) (drop (first - 1) (set digits (first - 1) (48 + rest))) ≡ decimal n
-unfolding digits_before
-digits_end {n} {first} {rest} {digits} h l =
-    let e : first ≡ suc (first - 1) = omega (arith, h.some) in
-    let inside : first - 1 < length digits = omega (arith, h.long, h.few, h.some) in
-    let small : rest < 10 = omega arith in
-    let long : length (drop (first - 1) (set digits (first - 1) (48 + rest))) ≤ 20 - (first - 1) = simp (length-drop, length-set) (omega (arith, h.long)) in
-    take_all (20 - (first - 1)) (drop (first - 1) (set digits (first - 1) (48 + rest))) long ∙
-    (drop_set digits (first - 1) (48 + rest) inside ∙
-    (simp (lt-ltb rest 10 small) at (subst (λ k. digits_before k rest (drop k digits) ≡ decimal n) e h.whole)))
+pub digits_next : {before out : List ℕ} {at end n place rest : ℕ} → at < place → place ≤ length out → DigitsLeft before at end n place rest out →
+    DigitsLeft before at end n (place - 1) (rest / 10) (set out (place - 1) (48 + rest % 10))
+unfolding last_digits
+digits_next {before} {out} {at} {end} {n} {place} {rest} l long h =
+    let more : suc (place - 1 - at) ≡ place - at = omega arith in
+    let here : suc (place - 1) ≡ place = omega arith in
+    let inside : place - 1 < length out = omega arith in
+    record {
+      inside = omega arith;
+      front = take-set-le at out (place - 1) (48 + rest % 10) (omega arith) ∙ h.front;
+      whole =
+          ap (last_digits (place - 1 - at) (rest / 10)) (drop_set out (place - 1) (48 + rest % 10) inside) ∙
+          (ap₂ (λ k j. last_digits k rest (drop j out)) more here ∙ h.whole);
+    }
+
+pub digits_end : {before out : List ℕ} {at n many place rest : ℕ} → place ≤ at → TextFits before at (decimal n) → many ≡ length (decimal n) →
+    DigitsLeft before at (at + many) n place rest out → Puts before at (decimal n) out (at + many)
+unfolding last_digits
+digits_end {before} {out} {at} {n} {many} {place} {rest} l fits e h =
+    let here : place ≡ at = omega (arith, h.inside) in
+    let none : place - at ≡ 0 = omega arith in
+    let whole : drop at out ≡ decimal n ++ drop (at + many) before = rw (none, here) at h.whole in
+    record {
+      bytes =
+          sym (take-append-drop at out) ∙
+          (ap₂ ◌++◌ h.front (rw e at whole) ∙ sym (set_whole before at (decimal n) fits));
+      ends = omega arith;
+    }

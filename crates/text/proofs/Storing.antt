@@ -1,12 +1,8 @@
 -- Texts stored one behind the other: what is still to store of a text, of which a front part is stored. The proofs of lines cite these laws.
-use Prim.Native.Nat.{ℕ, suc, ◌+◌, ◌≤◌, ◌<◌}
-use native.Mathlib.Nat.{add_assoc, add-suc, suc-add, add-zero}
-use native.Mathlib.Numerals.{add-one}
-use native.Mathlib.Omega.{arith}
-use mathlib.Core.Path.{◌≡◌, refl, sym, ap, subst, ◌∙◌}
-use mathlib.Core.List.{List, [], ◌∷◌, ◌++◌}
-use lib.ListN.{length, get_or, drop, set, length-append, length-set, drop_of_length-le}
-use lib.Seq.{sets, length-sets, drop-cons}
+use Rattle.std.proofs.Common.{ℕ, suc, ◌+◌, ◌-◌, ◌≤◌, ◌<◌, ◌≡◌, refl, sym, ap, ◌∙◌, List, [], ◌∷◌, ◌++◌, length, take, drop, set, length-append, length-set, append_assoc, drop-drop, add-suc, suc-add, add-zero, add-one, arith}
+use Rattle.std.proofs.lemmas.List.Edits.{sets, sets-eq}
+use Rattle.std.proofs.Math.Seq.{length-sets}
+use borrow.Rule.Slice.PartMut.{put_mid}
 use Rattle.text.specs.Text.{TextFits, Puts}
 
 sets_append : (out : List ℕ) (at : ℕ) (a b : List ℕ) → sets (sets out at a) (at + length a) b ≡ sets out at (a ++ b)
@@ -64,16 +60,16 @@ module _ {before : List ℕ} {start : ℕ} {text out : List ℕ} {at : ℕ} wher
   pub still_none : Still before start text out at [] → Puts before start text out at
   still_none h = record { bytes = h.bytes; ends = sym (add-zero at) ∙ h.ends }
 
--- a text is copied byte by byte
-pub copy_start : {out : List ℕ} {at : ℕ} {text : List ℕ} → TextFits out at text → Still out at text out (at + 0) text
-copy_start h = rw add-zero (still_all h)
+-- what a list holds where a text is stored in it
+pub set_whole : (out : List ℕ) (at : ℕ) (text : List ℕ) → TextFits out at text → sets out at text ≡ take at out ++ (text ++ drop (at + length text) out)
+set_whole out at text h = sets-eq text out at h ∙ append_assoc (take at out) text (drop (at + length text) out)
 
-pub copy_turn : {before : List ℕ} {start : ℕ} {text out : List ℕ} {i : ℕ} → i < length text → Still before start text out (start + i) (drop i text) →
-    Still before start text (set out (start + i) (get_or text i 0)) (start + (i + 1)) (drop (i + 1) text)
-copy_turn {before} {start} {text} {out} {i} l h =
-    subst (λ k. Still before start text (set out (start + i) (get_or text i 0)) k (drop (i + 1) text)) (add_assoc start i 1)
-    (rw (add-one i) (still_byte (rw (drop-cons text i 0 l) at h)))
-
-pub copy_end : {before : List ℕ} {start : ℕ} {text out : List ℕ} {i : ℕ} → length text ≤ i → Still before start text out (start + i) (drop i text) →
-    Puts before start text out (start + i)
-copy_end {text = text} l h = still_none (rw (drop_of_length-le text l) at h)
+-- a text is stored as a part of the output that a call fills
+pub put_part : {out after : List ℕ} {at : ℕ} {text : List ℕ} → TextFits out at text → after ≡ text →
+    Puts out at text (put_mid at (at + length text - at) out after) (at + length text)
+put_part {out} {at = at} {text = text} h e =
+    let same : at + (at + length text - at) ≡ at + length text = omega arith in
+    record {
+      bytes = rw (e, drop-drop, set_whole out at text h) (ap (λ k. take at out ++ (text ++ drop k out)) same);
+      ends = refl;
+    }

@@ -1,17 +1,11 @@
 -- Laws of laying the edges of a graph form, one kind of edge after the other: what stands at each place, and that a store lays one edge more.
-use Prim.Native.Nat.{ℕ, ◌+◌, ◌*◌, ◌-◌, ◌≤◌, ◌<◌}
-use native.Mathlib.Omega.{arith}
-use mathlib.Core.Path.{◌≡◌, refl, sym, ap, ap₂, subst, ◌∙◌}
-use mathlib.Core.List.{List, [], ◌∷◌}
-use mathlib.Core.Bool.{Bool, true, false, cond, ◌&&◌}
-use borrow.Author.Tests.{lt-ltb, le-ltb}
-use lib.Dec.{ltb}
-use lib.ListN.{length, get_or, set}
+use Rattle.std.proofs.Common.{ℕ, ◌+◌, ◌*◌, ◌-◌, ◌≤◌, ◌<◌, ◌≡◌, refl, sym, ap, ap₂, subst, ◌∙◌, List, [], ◌∷◌, Bool, true, false, cond, ◌&&◌, ltb, Option, is_some, length, get_or, set, arith, lt-ltb, le-ltb}
+use Rattle.std.specs.Bool.{then_some}
 use Rattle.mathematics.specs.Lists.{last_of}
 use Rattle.mathematics.specs.Graph.{is_start, is_end}
 use Rattle.mathematics.specs.Reach.{useful}
 use Rattle.mathematics.proofs.Links.{Link, opening, closing, inside, across, reading, link_from, link_to}
-use Rattle.forms.specs.GraphForm.{vertex_count, arc_count, opening_price, arc_length, arc_at, arc_tail, arc_head, arc_cost}
+use Rattle.forms.specs.GraphForm.{vertex_count, arc_count, opening_price, arc_at, arc_tail, arc_head, arc_cost}
 use Rattle.forms.specs.GraphOf.{graph_of}
 use Rattle.forms.specs.GraphReads.{Reads}
 use Rattle.reads.specs.ReadTable.{row_at, Leaves, row_length, table_rows}
@@ -20,10 +14,9 @@ use Rattle.reads.proofs.TableRows.{table_get, table_row}
 use Rattle.network.specs.Network.{nth, most_edges}
 use Rattle.paths.specs.Slots.{prepared_of, plain_slots, across_slot, opening_slot, closing_slot, reading_slot, link_at, in_use, edge_from, edge_to, edge_cost}
 use Rattle.reach.specs.Reached.{FormSizes, Tells}
-use Rattle.wiring.specs.Lay.{Stored, EdgesLaid}
-use Rattle.forms.specs.Limits.{room_vertices}
+use Rattle.wiring.specs.declared.Edge.{Edge}
+use Rattle.wiring.specs.Lay.{edge_of, Stored, EdgesLaid}
 use Rattle.forms.proofs.Filling.{Filled, fill_more}
-use Rattle.reach.proofs.ReachLaws.{tail_low, head_low}
 use Rattle.paths.proofs.SlotKinds.{at_inside, at_across, at_opening, at_closing, at_reading}
 
 -- the edge at place e is used or not, goes from a to b and costs k
@@ -32,23 +25,18 @@ pub record EdgeIs (s : List ℕ) (e : ℕ) (used : Bool) (a b k : ℕ) : Type 0 
   pub to_is : cond used b 0 ≡ edge_to s e
   pub cost_is : cond used k 0 ≡ edge_cost s e
 
--- an edge that is used, and one that is not
-module _ {e : ℕ} {used : Bool} {a b k : ℕ} {from to cost : List ℕ} where
-  pub stored_used : used ≡ true → Stored e used a b k from to cost (set from e a) (set to e b) (set cost e k)
-  stored_used u =
-      record {
-        from_is = ap (λ t. set from e (cond t a 0)) (sym u);
-        to_is = ap (λ t. set to e (cond t b 0)) (sym u);
-        cost_is = ap (λ t. set cost e (cond t k 0)) (sym u);
-      }
+-- what is stored where a test says whether the edge is used
+module _ {e : ℕ} {x : Edge} {from to cost from' to' cost' : List ℕ} where
+  stored_tested : (t : Bool) →
+      Stored e (is_some (then_some t x)) (edge_of (then_some t x)).from (edge_of (then_some t x)).to (edge_of (then_some t x)).cost from to cost from' to' cost' →
+      Stored e t x.from x.to x.cost from to cost from' to' cost'
+  stored_tested true h = h
+  stored_tested false h = record { from_is = h.from_is; to_is = h.to_is; cost_is = h.cost_is }
 
-  pub stored_idle : used ≡ false → Stored e used a b k from to cost (set from e 0) (set to e 0) (set cost e 0)
-  stored_idle u =
-      record {
-        from_is = ap (λ t. set from e (cond t a 0)) (sym u);
-        to_is = ap (λ t. set to e (cond t b 0)) (sym u);
-        cost_is = ap (λ t. set cost e (cond t k 0)) (sym u);
-      }
+  pub stored_where : {used : Bool} {edge : Option Edge} → edge ≡ then_some used x →
+      Stored e (is_some edge) (edge_of edge).from (edge_of edge).to (edge_of edge).cost from to cost from' to' cost' → Stored e used x.from x.to x.cost from to cost from' to' cost'
+  stored_where {used} is st =
+      stored_tested used (subst (λ (o : Option Edge). Stored e (is_some o) (edge_of o).from (edge_of o).to (edge_of o).cost from to cost from' to' cost') is st)
 
 -- one store more
 filled_set : (xs xs' : List ℕ) (e x : ℕ) (f : ℕ → ℕ) → xs' ≡ set xs e x → length xs ≡ most_edges → e < most_edges → x ≡ f e → ((k : ℕ) → k < e → nth xs k ≡ f k) →
@@ -155,18 +143,6 @@ edges_at {s} {from} {to} {cost} l e = subst (λ i. EdgesLaid s i from to cost) e
 pub counted : {s : List ℕ} {n m : ℕ} → Reads s → n ≡ vertex_count s → m ≡ arc_count s → FormSizes s n m
 counted r n m = record { reads = r; vertices = n; arcs = m }
 
--- the arc whose edge is laid at place e: from the last arc down
-module _ {s : List ℕ} {n m : ℕ} (c : FormSizes s n m) {e : ℕ} (low : n ≤ e) (high : e < n + m) where
-  its_number : n + m - (e + 1) < arc_count s
-  its_number = omega (arith, c.arcs)
-
-  pub arc_whole : arc_at s (n + m - (e + 1)) + arc_length ≤ length s
-  arc_whole = (c.reads.arcs.each (n + m - (e + 1)) its_number).whole
-
-  -- an arc's ends are vertices
-  pub arc_low : {u v : ℕ} → u ≡ arc_tail s (arc_at s (n + m - (e + 1))) → v ≡ arc_head s (arc_at s (n + m - (e + 1))) → (u < room_vertices) × (v < room_vertices)
-  arc_low p q = (tail_low s c.reads.arcs its_number p, head_low s c.reads.arcs its_number q)
-
 -- a row that holds a read holds a number
 pub read_some : {rows : List (List ℕ)} {lens : List ℕ} {count i : ℕ} {rs : List (List ℕ)} → Leaves rows lens count rs → i < count →
     (1 ≤ get_or lens i 0) × (get_or lens i 0 ≤ row_length)
@@ -215,7 +191,7 @@ module _ {s : List ℕ} {n m : ℕ} (c : FormSizes s n m) {e : ℕ} {from to cos
       let some : 1 ≤ get_or lens i 0 = omega (arith, row.long, row.read.some) in
       lay_more laid (omega (arith, few_plain c.reads, l.table.counted, c.vertices, c.arcs)) st
       (reading_edge s e i (omega (arith, c.vertices, c.arcs)) first last (f ∙ sym (row_get rows lens i 0 some) ∙ ap (λ (x : List ℕ). get_or x 0 0) (sym is))
-      (g ∙ sym (last_get rows lens i i row row) ∙ last_at (row_at rows lens i) row.read.some ∙ ap (last_of 0) (sym is)))
+      (g ∙ sym (last_get rows lens i row) ∙ last_at (row_at rows lens i) row.read.some ∙ ap (last_of 0) (sym is)))
     where
       last_from : (x : ℕ) (xs : List ℕ) → get_or (x ∷ xs) (length xs) 0 ≡ last_of x xs
       last_from x [] = refl

@@ -1,12 +1,18 @@
 -- The working network as it is laid from a graph form that reads: edges, first loads, live nodes, and what each node has too much or too little of.
 -- What the builder's stages hand on cites these; its promise does not.
-use Rattle.std.specs.Prelude.{ℕ, ◌+◌, ◌≤◌, ◌<◌, ◌≡◌, List, Bool, cond, ◌⊎◌, length, set}
+use Rattle.std.specs.Prelude.{ℕ, ◌+◌, ◌≤◌, ◌<◌, ◌≡◌, List, Bool, cond, ◌⊎◌, Option, Some, None, length, set}
 use Rattle.mathematics.specs.Bound.{reads_through}
 use Rattle.mathematics.specs.Cover.{vert}
 use Rattle.forms.specs.GraphForm.{vertex_count, arc_count}
 use Rattle.forms.specs.GraphOf.{arc_item}
 use Rattle.network.specs.Network.{nth, live_at, leaving, entering, most_nodes, most_edges}
+use Rattle.wiring.specs.declared.Edge.{Edge}
 use Rattle.paths.specs.Slots.{prepared_of, live_node, edge_from, edge_to, edge_cost, first_load}
+
+-- the edge that stands where one is used or not
+abbrev pub edge_of : Option Edge → Edge
+edge_of (Some edge) = edge
+edge_of None = record { from = 0; to = 0; cost = 0 }
 
 -- an edge is stored at place e: with its ends and its cost where it is used, and else as a loop of cost 0 at the root
 pub record Stored (e : ℕ) (used : Bool) (a b k : ℕ) (from to cost from' to' cost' : List ℕ) : Type 0 where

@@ -1,7 +1,7 @@
 // The working network of a graph form: edges with their ends and costs, first loads, live nodes, and each node's surplus or deficit.
 #![tactic(auto)]
 
-ghost use Rattle.std.specs.Prelude.{◌≡◌, ◌&&◌, cond, ltb, ◌+◌, ◌*◌, ◌-◌, ◌<◌, ◌≤◌, length};
+ghost use Rattle.std.specs.Prelude.{◌≡◌, ◌+◌, ◌*◌, ◌-◌, ◌<◌, ◌≤◌, length, is_some};
 ghost use Rattle.mathematics.specs.Reach.{useful};
 ghost use Rattle.forms.specs.GraphForm.{vertex_count, arc_count};
 ghost use Rattle.forms.specs.GraphOf.{graph_of};
@@ -11,142 +11,132 @@ ghost use Rattle.reads.specs.ReadTable.{Leaves, table_rows};
 ghost use Rattle.network.specs.Network.{most_nodes, most_edges, Summable, Tallied};
 ghost use Rattle.paths.specs.Slots.{prepared_of, plain_slots, all_slots};
 ghost use Rattle.reach.specs.Reached.{Tells};
-ghost use Rattle.wiring.specs.Lay.{Stored, EdgesLaid, VerticesCounted, ArcsCounted, LoadsLaid, LiveLaid, Netted, Balanced};
+ghost use Rattle.wiring.specs.Lay.{edge_of, Stored, EdgesLaid, VerticesCounted, ArcsCounted, LoadsLaid, LiveLaid, Netted, Balanced};
 
 use forms::Graph;
-use forms::bytes::wide;
 use forms::fields::{
     arc_cost, arc_count, arc_demand, arc_head, arc_tail, first_arc_at, opening_price, vertex_count,
     vertex_demand,
 };
-use forms::roles::{is_end, is_start};
+use forms::roles::{Role, is_end, is_start};
 use network::stands::tally;
-use network::{EDGES, NODES};
+use network::{Balance, EDGES, NODES, Network};
 use reads::{ROW, ROWS};
 
-pub fn both(a: bool, b: bool) -> bool
-    ensures { result ≡ a && b }
-{
-    if a { b } else { false }
+// An edge that is used: the nodes that it comes from and goes to, and what it costs.
+#[derive(Clone, Copy, Debug, PartialEq, Eq)]
+struct Edge {
+    from: usize,
+    to: usize,
+    cost: u64,
 }
 
-// Stores the edge at place e. One that is not used is a loop of cost 0 at the root.
-fn store_edge(
-    e: usize,
-    used: bool,
-    a: usize,
-    b: usize,
-    k: u64,
-    from: &mut [usize; EDGES],
-    to: &mut [usize; EDGES],
-    cost: &mut [u64; EDGES],
-)
+impl Edge {
+    // What stands in the place of an edge that is not used: a loop of cost 0 at the root.
+    const IDLE: Edge = Edge {
+        from: 0,
+        to: 0,
+        cost: 0,
+    };
+}
+
+// Stores the edge at place e, or that none is used there.
+fn store_edge(network: &mut Network, e: usize, edge: Option<Edge>)
     requires { e < most_edges }
-    ensures { Stored e used a b k from.old to.old cost.old from.new to.new cost.new }
+    ensures { Stored e (is_some edge) (edge_of edge).from (edge_of edge).to (edge_of edge).cost network.old.from network.old.to network.old.cost network.new.from network.new.to network.new.cost }
 {
-    if used {
-        from[e] = a;
-        to[e] = b;
-        cost[e] = k;
-    } else {
-        from[e] = 0;
-        to[e] = 0;
-        cost[e] = 0;
-    }
+    let laid = edge.unwrap_or(Edge::IDLE);
+    network.from[e] = laid.from;
+    network.to[e] = laid.to;
+    network.cost[e] = laid.cost;
 }
 
 // From the in side of each useful vertex to its out side.
-fn lay_vertices(
-    s: &[u8],
-    kept: &[bool; Graph::ROOM_VERTICES],
-    from: &mut [usize; EDGES],
-    to: &mut [usize; EDGES],
-    cost: &mut [u64; EDGES],
-)
+fn lay_vertices(s: &[u8], kept: &[bool; Graph::ROOM_VERTICES], network: &mut Network)
     requires reads { Reads s.now × Tells s.now (useful (graph_of s.now)) kept.now }
-    requires edges_laid { EdgesLaid s.now 0 from.old to.old cost.old }
-    ensures { EdgesLaid s.now (vertex_count s.now) from.new to.new cost.new }
+    requires edges_laid { EdgesLaid s.now 0 network.old.from network.old.to network.old.cost }
+    ensures { EdgesLaid s.now (vertex_count s.now) network.new.from network.new.to network.new.cost }
 {
-    let n = vertex_count(s);
-    let mut v = 0;
-    while v < n {
-        store_edge(v, kept[v], 2 * v + 1, 2 * v + 2, 0, from, to, cost);
-        v += 1;
+    for v in 0..vertex_count(s) {
+        let edge = Edge {
+            from: 2 * v + 1,
+            to: 2 * v + 2,
+            cost: 0,
+        };
+        store_edge(network, v, kept[v].then_some(edge));
     }
 }
 
 // From the out side of an arc's tail to the in side of its head, where both are useful; from the last arc down.
-fn lay_arcs(
-    s: &[u8],
-    kept: &[bool; Graph::ROOM_VERTICES],
-    from: &mut [usize; EDGES],
-    to: &mut [usize; EDGES],
-    cost: &mut [u64; EDGES],
-)
+fn lay_arcs(s: &[u8], kept: &[bool; Graph::ROOM_VERTICES], network: &mut Network)
     requires reads { Reads s.now × Tells s.now (useful (graph_of s.now)) kept.now }
-    requires edges_laid { EdgesLaid s.now (vertex_count s.now) from.old to.old cost.old }
-    ensures { EdgesLaid s.now (vertex_count s.now + arc_count s.now) from.new to.new cost.new }
+    requires edges_laid { EdgesLaid s.now (vertex_count s.now) network.old.from network.old.to network.old.cost }
+    ensures { EdgesLaid s.now (vertex_count s.now + arc_count s.now) network.new.from network.new.to network.new.cost }
 {
     let n = vertex_count(s);
     let m = arc_count(s);
     let base = first_arc_at(s);
-    let mut e = n;
-    while e < n + m {
+    for e in n..n + m {
         let a = n + m - (e + 1);
         let u = arc_tail(s, base, a);
         let v = arc_head(s, base, a);
-        let k = arc_cost(s, base, a) as u64;
-        let used = both(kept[u], kept[v]);
-        store_edge(e, used, 2 * u + 2, 2 * v + 1, k, from, to, cost);
-        e += 1;
+        let edge = Edge {
+            from: 2 * u + 2,
+            to: 2 * v + 1,
+            cost: arc_cost(s, base, a) as u64,
+        };
+        let used = kept[u] && kept[v];
+        store_edge(network, e, used.then_some(edge));
     }
 }
 
 // From the root to the in side of each useful start, at the opening price; from the last vertex down.
 fn lay_openings(
     s: &[u8],
-    roles: &[u8; Graph::ROOM_VERTICES],
+    roles: &[Role; Graph::ROOM_VERTICES],
     kept: &[bool; Graph::ROOM_VERTICES],
-    from: &mut [usize; EDGES],
-    to: &mut [usize; EDGES],
-    cost: &mut [u64; EDGES],
+    network: &mut Network,
 )
     requires reads { Reads s.now × Roles s.now roles.now × Tells s.now (useful (graph_of s.now)) kept.now }
-    requires edges_laid { EdgesLaid s.now (vertex_count s.now + arc_count s.now) from.old to.old cost.old }
-    ensures { EdgesLaid s.now (2 * vertex_count s.now + arc_count s.now) from.new to.new cost.new }
+    requires edges_laid { EdgesLaid s.now (vertex_count s.now + arc_count s.now) network.old.from network.old.to network.old.cost }
+    ensures { EdgesLaid s.now (2 * vertex_count s.now + arc_count s.now) network.new.from network.new.to network.new.cost }
 {
     let n = vertex_count(s);
     let m = arc_count(s);
-    let k = opening_price(s) as u64;
-    let mut e = n + m;
-    while e < 2 * n + m {
+    let price = opening_price(s) as u64;
+    for e in n + m..2 * n + m {
         let v = 2 * n + m - (e + 1);
-        let used = both(is_start(s, roles, v), kept[v]);
-        store_edge(e, used, 0, 2 * v + 1, k, from, to, cost);
-        e += 1;
+        let edge = Edge {
+            from: 0,
+            to: 2 * v + 1,
+            cost: price,
+        };
+        let used = is_start(s, roles, v) && kept[v];
+        store_edge(network, e, used.then_some(edge));
     }
 }
 
 // From the out side of each useful end back to the root.
 fn lay_closings(
     s: &[u8],
-    roles: &[u8; Graph::ROOM_VERTICES],
+    roles: &[Role; Graph::ROOM_VERTICES],
     kept: &[bool; Graph::ROOM_VERTICES],
-    from: &mut [usize; EDGES],
-    to: &mut [usize; EDGES],
-    cost: &mut [u64; EDGES],
+    network: &mut Network,
 )
     requires reads { Reads s.now × Roles s.now roles.now × Tells s.now (useful (graph_of s.now)) kept.now }
-    requires edges_laid { EdgesLaid s.now (2 * vertex_count s.now + arc_count s.now) from.old to.old cost.old }
-    ensures { EdgesLaid s.now (plain_slots s.now) from.new to.new cost.new }
+    requires edges_laid { EdgesLaid s.now (2 * vertex_count s.now + arc_count s.now) network.old.from network.old.to network.old.cost }
+    ensures { EdgesLaid s.now (plain_slots s.now) network.new.from network.new.to network.new.cost }
 {
     let n = vertex_count(s);
     let m = arc_count(s);
-    let mut v = 0;
-    while v < n {
-        let used = both(is_end(s, roles, v), kept[v]);
-        store_edge(2 * n + m + v, used, 2 * v + 2, 0, 0, from, to, cost);
-        v += 1;
+    for v in 0..n {
+        let edge = Edge {
+            from: 2 * v + 2,
+            to: 0,
+            cost: 0,
+        };
+        let used = is_end(s, roles, v) && kept[v];
+        store_edge(network, 2 * n + m + v, used.then_some(edge));
     }
 }
 
@@ -156,66 +146,49 @@ fn lay_reads(
     rows: &[[u8; ROW]; ROWS],
     lens: &[usize; ROWS],
     count: usize,
-    from: &mut [usize; EDGES],
-    to: &mut [usize; EDGES],
-    cost: &mut [u64; EDGES],
+    network: &mut Network,
 )
     requires reads { Reads s.now × Leaves rows.now lens.now count (prepared_of s.now) }
-    requires edges_laid { EdgesLaid s.now (plain_slots s.now) from.old to.old cost.old }
-    ensures { EdgesLaid s.now (all_slots s.now) from.new to.new cost.new }
+    requires edges_laid { EdgesLaid s.now (plain_slots s.now) network.old.from network.old.to network.old.cost }
+    ensures { EdgesLaid s.now (all_slots s.now) network.new.from network.new.to network.new.cost }
 {
-    let n = vertex_count(s);
-    let m = arc_count(s);
-    let mut i = 0;
-    while i < count {
-        let first = wide(rows[i][0]);
-        let last = wide(rows[i][lens[i] - 1]);
-        store_edge(
-            3 * n + m + i,
-            true,
-            2 * first + 1,
-            2 * last + 2,
-            0,
-            from,
-            to,
-            cost,
-        );
-        i += 1;
+    let plain = 3 * vertex_count(s) + arc_count(s);
+    for i in 0..count {
+        let first = usize::from(rows[i][0]);
+        let last = usize::from(rows[i][lens[i] - 1]);
+        let edge = Edge {
+            from: 2 * first + 1,
+            to: 2 * last + 2,
+            cost: 0,
+        };
+        store_edge(network, plain + i, Some(edge));
     }
 }
 
-// All edges: vertices, arcs, openings, closings, reads.
+// All edges: vertices, arcs, openings, closings, reads. A flow may use all nodes, and all edges but those of the reads, which lie behind the others.
 pub fn lay_edges(
     s: &[u8],
-    roles: &[u8; Graph::ROOM_VERTICES],
+    roles: &[Role; Graph::ROOM_VERTICES],
     kept: &[bool; Graph::ROOM_VERTICES],
     rows: &[[u8; ROW]; ROWS],
     lens: &[usize; ROWS],
     count: usize,
-    from: &mut [usize; EDGES],
-    to: &mut [usize; EDGES],
-    cost: &mut [u64; EDGES],
+    network: &mut Network,
 )
     requires reads { Reads s.now × Roles s.now roles.now × Tells s.now (useful (graph_of s.now)) kept.now }
     requires leaves { Leaves rows.now lens.now count (prepared_of s.now) }
-    requires edges_laid { EdgesLaid s.now 0 from.old to.old cost.old }
-    ensures { EdgesLaid s.now (all_slots s.now) from.new to.new cost.new }
+    requires edges_laid { EdgesLaid s.now 0 network.old.from network.old.to network.old.cost }
+    ensures laid { EdgesLaid s.now (all_slots s.now) network.new.from network.new.to network.new.cost }
+    ensures in_use { (network.new.nodes ≡ 2 * vertex_count s.now + 1) × (network.new.edges ≡ plain_slots s.now) }
 {
-    lay_vertices(s, kept, from, to, cost);
-    lay_arcs(s, kept, from, to, cost);
-    lay_openings(s, roles, kept, from, to, cost);
-    lay_closings(s, roles, kept, from, to, cost);
-    lay_reads(s, rows, lens, count, from, to, cost);
-}
-
-// What is left of a demand once that many reads are taken off it.
-fn owed(demand: usize, reads: usize) -> u64
-    ensures { result ≡ demand - reads }
-{
-    if demand < reads {
-        return 0;
-    }
-    (demand - reads) as u64
+    lay_vertices(s, kept, network);
+    lay_arcs(s, kept, network);
+    lay_openings(s, roles, kept, network);
+    lay_closings(s, roles, kept, network);
+    lay_reads(s, rows, lens, count, network);
+    let n = vertex_count(s);
+    network.nodes = 2 * n + 1;
+    network.edges = 3 * n + arc_count(s);
 }
 
 // On the edge of a vertex lies its rest.
@@ -224,11 +197,8 @@ fn load_vertices(s: &[u8], passed: &[usize; Graph::ROOM_VERTICES], load: &mut [u
     requires loads_laid { LoadsLaid s.now 0 load.old }
     ensures { LoadsLaid s.now (vertex_count s.now) load.new }
 {
-    let n = vertex_count(s);
-    let mut v = 0;
-    while v < n {
-        load[v] = owed(vertex_demand(s, v), passed[v]);
-        v += 1;
+    for v in 0..vertex_count(s) {
+        load[v] = vertex_demand(s, v).saturating_sub(passed[v]) as u64;
     }
 }
 
@@ -241,19 +211,10 @@ fn load_arcs(s: &[u8], passed: &[usize; Graph::ROOM_ARCS], load: &mut [u64; EDGE
     let n = vertex_count(s);
     let m = arc_count(s);
     let base = first_arc_at(s);
-    let mut e = n;
-    while e < n + m {
+    for e in n..n + m {
         let a = n + m - (e + 1);
-        load[e] = owed(arc_demand(s, base, a), passed[a]);
-        e += 1;
+        load[e] = arc_demand(s, base, a).saturating_sub(passed[a]) as u64;
     }
-}
-
-// Nothing before `plain`, and 1 from there on.
-fn unit(e: usize, plain: usize) -> u64
-    ensures { result ≡ cond (ltb e plain) 0 1 }
-{
-    if e < plain { 0 } else { 1 }
 }
 
 // On an opening and on a closing lies nothing, and on each prepared read one unit.
@@ -265,11 +226,8 @@ fn load_ends(s: &[u8], count: usize, load: &mut [u64; EDGES])
     let n = vertex_count(s);
     let m = arc_count(s);
     let plain = 3 * n + m;
-    let mut e = n + m;
-    while e < plain + count {
-        load[e] = unit(e, plain);
-        e += 1;
-    }
+    load[n + m..plain].fill(0);
+    load[plain..plain + count].fill(1);
 }
 
 // All first loads.
@@ -296,49 +254,38 @@ pub fn lay_live(s: &[u8], kept: &[bool; Graph::ROOM_VERTICES], live: &mut [bool;
     requires live_len { length live.old ≡ most_nodes }
     ensures { LiveLaid s.now (2 * vertex_count s.now + 1) live.new }
 {
-    let n = vertex_count(s);
     live[0] = true;
-    let mut v = 0;
-    while v < n {
+    for v in 0..vertex_count(s) {
         live[2 * v + 1] = kept[v];
         live[2 * v + 2] = kept[v];
-        v += 1;
     }
 }
 
 // Takes the lesser of what enters and what leaves off both, at each node.
-fn net(nodes: usize, surplus: &mut [u64; NODES], deficit: &mut [u64; NODES])
+fn net(nodes: usize, balance: &mut Balance)
     requires nodes_le_most_nodes { nodes ≤ most_nodes }
-    requires netted { Netted 0 surplus.old deficit.old surplus.old deficit.old }
-    ensures { Netted nodes surplus.old deficit.old surplus.new deficit.new }
+    requires netted { Netted 0 balance.old.surplus balance.old.deficit balance.old.surplus balance.old.deficit }
+    ensures { Netted nodes balance.old.surplus balance.old.deficit balance.new.surplus balance.new.deficit }
 {
-    let mut u = 0;
-    while u < nodes {
-        if surplus[u] < deficit[u] {
-            deficit[u] = deficit[u] - surplus[u];
-            surplus[u] = 0;
-        } else {
-            surplus[u] = surplus[u] - deficit[u];
-            deficit[u] = 0;
-        }
-        u += 1;
+    for u in 0..nodes {
+        let lesser = balance.surplus[u].min(balance.deficit[u]);
+        balance.surplus[u] -= lesser;
+        balance.deficit[u] -= lesser;
     }
 }
 
-// What has to move: a node that more enters than leaves has a surplus, one that more leaves than enters a deficit.
-pub fn lay_balance(
-    nodes: usize,
-    edges: usize,
-    from: &[usize; EDGES],
-    to: &[usize; EDGES],
-    load: &[u64; EDGES],
-    surplus: &mut [u64; NODES],
-    deficit: &mut [u64; NODES],
-)
-    requires summable { Summable nodes edges from.now to.now load.now }
-    requires tallied { Tallied nodes 0 from.now to.now load.now surplus.old deficit.old }
-    ensures { Balanced nodes edges from.now to.now load.now surplus.new deficit.new }
+// What has to move, by the loads on so many edges: a node that more enters than leaves has a surplus, one that more leaves than enters a deficit.
+pub fn lay_balance(network: &Network, edges: usize, load: &[u64; EDGES], balance: &mut Balance)
+    requires summable { Summable network.now.nodes edges network.now.from network.now.to load.now }
+    requires tallied { Tallied network.now.nodes 0 network.now.from network.now.to load.now balance.old.surplus balance.old.deficit }
+    ensures { Balanced network.now.nodes edges network.now.from network.now.to load.now balance.new.surplus balance.new.deficit }
 {
-    tally(nodes, edges, from, to, load, surplus, deficit);
-    net(nodes, surplus, deficit);
+    tally(
+        network,
+        edges,
+        load,
+        &mut balance.surplus,
+        &mut balance.deficit,
+    );
+    net(network.nodes, balance);
 }

@@ -1,14 +1,7 @@
 -- Laws of bytes put into the output: what is put after one another, and in front of what is there; then marks, path records and the whole answer form.
-use Prim.Native.Nat.{ℕ, zero, suc, ◌+◌, ◌*◌, ◌-◌, ◌≤◌, ◌<◌}
-use native.Mathlib.Nat.{mul-zero, mul-suc, mul-le-mul_left}
-use native.Mathlib.Omega.{arith}
-use native.Mathlib.Numerals.{add-one}
-use mathlib.Core.Path.{◌≡◌, refl, sym, ap, ap₂, subst, ◌∙◌}
-use mathlib.Core.List.{List, [], ◌∷◌, ◌++◌, append_assoc, append-nil}
-use borrow.Author.Tests.{lt-ltb}
-use lib.IntN.{ℤ, negsuc, sub_ℕ}
-use lib.ListN.{length, get_or, take, drop, set, length-append, length-drop, take-append-drop}
-use lib.Seq.{take_at, drop_at, drop-drop, take-suc, sets-eq, length-take-le}
+use Rattle.std.proofs.Common.{ℕ, zero, suc, ◌+◌, ◌*◌, ◌≤◌, ◌<◌, mul-zero, mul-suc, mul-le-mul_left, arith, add-one, ◌≡◌, refl, sym, ap, ap₂, subst, ◌∙◌, List, [], ◌∷◌, ◌++◌, append_assoc, append-nil, ℤ, length, get_or, take, drop, set, length-append, length-drop, take-append-drop, take_at, drop_at, drop-drop, length-take-le, get_or-take, rules, w16, w32, w64}
+use Rattle.std.proofs.Math.IntN.{sub_ℕ}
+use Rattle.std.proofs.Math.Seq.{sets-eq}
 use Rattle.mathematics.specs.Cover.{Weighted}
 use Rattle.mathematics.specs.Bound.{Marks}
 use Rattle.forms.specs.Bytes.{tabulate}
@@ -16,15 +9,17 @@ use Rattle.forms.specs.Layout.{max_vertices, max_paths, count_bytes, answer_vers
 use Rattle.forms.specs.GraphForm.{vertex_count}
 use Rattle.forms.specs.GraphReads.{HeaderRight}
 use Rattle.forms.specs.AnswerForm.{answer_version_at, path_count_at, price_at, in_mark_at, out_mark_at, first_path_at, path_vertices_at}
-use Rattle.forms.proofs.LayoutLaws.{count_inside, price_parts_is, mark_first, mark_next, mark_grows, answer_longest, path_length_limit, vertices_room}
+use Rattle.forms.proofs.LayoutLaws.{count_inside, price_parts_is, mark_first, mark_next, mark_grows, answer_longest, path_length_limit, vertices_room, paths_room}
 use Rattle.forms.proofs.GraphFacts.{length_tabulate}
 use Rattle.checker.specs.Encode.{bytes16, bytes32, bytes64, count_in, word32, mark_bytes, path_record, path_bytes, after_length, encode_answer}
 use Rattle.checker.proofs.Encoding.{marks_length, count_length}
-use Rattle.certify.proofs.CertifyLawsSlack.{low_difference}
 use Rattle.reads.specs.ReadTable.{row_length}
 use Rattle.network.specs.Network.{nth, base}
-use Rattle.paths.specs.Peel.{collected_at, collected}
-use Rattle.writing.specs.Writing.{Placed, held_marks, longest_record, longest_records}
+use Rattle.paths.specs.declared.collect.Paths.{Paths}
+use Rattle.paths.specs.declared.collect.Path.{Path}
+use Rattle.paths.specs.Peel.{no_path, path_at, collected_at, collected}
+use Rattle.std.specs.Int.{to_be_bytes}
+use Rattle.writing.specs.Writing.{Placed, held_marks, longest_record, longest_records, PathsFit}
 
 module _ (a b : List ℕ) (place : ℕ) (x : List ℕ) (P : Placed a place x b) where
   front_length : length (take place a) ≡ place
@@ -45,16 +40,22 @@ module _ (a b : List ℕ) (place : ℕ) (x : List ℕ) (P : Placed a place x b) 
       ap (take (place + length x)) (P.is ∙ sym (append_assoc (take place a) x (drop (place + length x) a))) ∙
       take_at (take place a ++ x) (drop (place + length x) a) (place + length x) (length-append (take place a) x ∙ ap (λ k. k + length x) front_length)
 
--- bytes stored one after another are put
-pub placed_two : (a : List ℕ) (place x y : ℕ) → place + 2 ≤ length a → Placed a place (x ∷ y ∷ []) (set (set a place x) (place + 1) y)
-placed_two a place x y h =
-    record {
-      room = omega arith;
-      is = ap (λ k. set (set a place x) k y) (add-one place) ∙ (sets-eq (x ∷ y ∷ []) a place (omega arith) ∙ append_assoc (take place a) (x ∷ y ∷ []) (drop (place + 2) a));
-    }
+-- a number's bytes, as the toolchain's library gives them
+pub be_bytes16 : (x : ℕ) → x < 65_536 → to_be_bytes w16 x ≡ bytes16 x
+be_bytes16 x h = search rules
+
+pub be_bytes32 : (x : ℕ) → x < 4_294_967_296 → to_be_bytes w32 x ≡ bytes32 x
+be_bytes32 x h = search rules
+
+pub be_bytes64 : (x : ℕ) → x < 18_446_744_073_709_551_616 → to_be_bytes w64 x ≡ bytes64 x
+be_bytes64 x h = search rules
 
 pub placed_one : (a : List ℕ) (place x : ℕ) → place < length a → Placed a place (x ∷ []) (set a place x)
 placed_one a place x h = record { room = omega arith; is = sets-eq (x ∷ []) a place (omega arith) ∙ append_assoc (take place a) (x ∷ []) (drop (place + 1) a) }
+
+-- bytes that are the same list
+pub placed_same : (a b : List ℕ) (place : ℕ) {x y : List ℕ} → Placed a place x b → x ≡ y → Placed a place y b
+placed_same a b place P e = subst (λ z. Placed a place z b) e P
 
 -- nothing put
 pub placed_none : (a : List ℕ) (place : ℕ) → place ≤ length a → Placed a place [] a
@@ -106,22 +107,6 @@ placed_taken a b x P =
     let e : 0 + length x ≡ length x = omega arith in
     (ap (λ k. take k b) (sym e) ∙ placed_through a b 0 x P, ap (λ k. drop k b) (sym e) ∙ (placed_behind a b 0 x P ∙ ap (λ k. drop k a) e))
 
--- a mark held with the base added, in two's complement
-word_below : (x : ℕ) → x < base → x + (4_294_967_296 - base) ≡ word32 (sub_ℕ x base)
-word_below x h = sym (ap word32 (negative x base h) ∙ (let e : 4_294_967_295 - (base - suc x) ≡ x + (4_294_967_296 - base) = omega arith in e))
-  where
-    negative : (a b : ℕ) → a < b → sub_ℕ a b ≡ negsuc (b - suc a)
-    negative a b l = simp (lt-ltb a b l)
-
-word_above : (x : ℕ) → base ≤ x → x - base ≡ word32 (sub_ℕ x base)
-word_above x h = sym (ap word32 (low_difference x base h))
-
-pub mark_below : (a b : List ℕ) (place x : ℕ) → x < base → Placed a place (bytes32 (x + (4_294_967_296 - base))) b → Placed a place (bytes32 (word32 (sub_ℕ x base))) b
-mark_below a b place x h P = subst (λ w. Placed a place (bytes32 w) b) (word_below x h) P
-
-pub mark_above : (a b : List ℕ) (place x : ℕ) → base ≤ x → Placed a place (bytes32 (x - base)) b → Placed a place (bytes32 (word32 (sub_ℕ x base))) b
-mark_above a b place x h P = subst (λ w. Placed a place (bytes32 w) b) (word_above x h) P
-
 -- ---- marks, one vertex after another
 
 marks_snoc : (m : Marks ℤ) (k i : ℕ) → mark_bytes m (suc k) i ≡ mark_bytes m k i ++ (bytes32 (word32 (m.into (i + k))) ++ bytes32 (word32 (m.out (i + k))))
@@ -156,16 +141,6 @@ module _ (s a into out : List ℕ) where
       (placed_both a b d (in_mark_at s 0) p (mark_bytes held v 0) (bytes32 (word32 (sub_ℕ (nth into v) base)) ++ bytes32 (word32 (sub_ℕ (nth out v) base))) P
       (omega (arith, ep, mark_place s v, marks_length held v 0))
       (placed_both b c d p q (bytes32 (word32 (sub_ℕ (nth into v) base))) (bytes32 (word32 (sub_ℕ (nth out v) base))) Q (omega (arith, ep, eq, price_parts_is s)) R))
-
--- ---- vertices, one after another
-
-pub vertices_turn : (a : List ℕ) (place : ℕ) (row : List ℕ) (j : ℕ) (b : List ℕ) → j < length row → place + j < length a → Placed a place (take j row) b →
-    Placed a place (take (j + 1) row) (set b (place + j) (get_or row j 0))
-vertices_turn a place row j b h k P =
-    subst (λ x. Placed a place x (set b (place + j) (get_or row j 0))) (sym (ap (λ i. take i row) (add-one j) ∙ take-suc row j 0 h))
-    (placed_both a b (set b (place + j) (get_or row j 0)) place (place + j) (take j row) (get_or row j 0 ∷ []) P
-    (ap (λ i. place + i) (sym (length-take-le j row (omega arith))))
-    (placed_one b (place + j) (get_or row j 0) (let l = placed_length a b place (take j row) P in omega arith)))
 
 -- ---- paths, one after another
 
@@ -214,49 +189,74 @@ module _ (s : List ℕ) where
   pub path_in_row_lem : max_path_length s ≤ row_length
   path_in_row_lem = omega (arith, path_length_limit s, vertices_room s)
 
+-- an answer form for paths that fit has room in an output that is long enough for the longest
+pub answer_inside : (s : List ℕ) (table : Paths) (n : ℕ) → PathsFit s table → longest_answer s ≤ n →
+    (price_at + 8 ≤ first_path_at s) × (first_path_at s + longest_records s table.count ≤ n)
+answer_inside s table n fit long = let room = answer_room s table.count fit.header fit.few in (room.0, omega (arith, room.1))
+
+-- the first i paths of the table
+abbrev pub first_paths : Paths → ℕ → List Weighted
+first_paths table i = tabulate (collected_at table) i 0
+
+-- the slice of the paths of a table: as many as there are, and each of them as in its row
+pub slice_long : (s : List ℕ) (table : Paths) (rows : List Path) → PathsFit s table → rows ≡ take table.count table.rows → length rows ≡ table.count
+slice_long s table rows fit e = ap length e ∙ length-take-le table.count table.rows (omega (arith, fit.tall, fit.few, paths_room s))
+
+pub row_of : (table : Paths) (rows : List Path) (k : ℕ) → rows ≡ take table.count table.rows → k < table.count → get_or rows k no_path ≡ path_at table k
+row_of table rows k e h = ap (λ rs. get_or rs k no_path) e ∙ get_or-take table.count table.rows k no_path h
+
 -- the end of the records of the first i paths
-pub record PathsEnd (s : List ℕ) (rows : List (List ℕ)) (lens weights : List ℕ) (i end : ℕ) : Type 0 where
-  pub is : end ≡ first_path_at s + length (path_bytes s (collected rows lens weights i))
+pub record PathsEnd (s : List ℕ) (table : Paths) (i end : ℕ) : Type 0 where
+  pub is : end ≡ first_path_at s + length (path_bytes s (first_paths table i))
   pub most : end ≤ first_path_at s + longest_records s i
 
-module _ (s : List ℕ) (rows : List (List ℕ)) (lens weights : List ℕ) where
-  collected_more : (i : ℕ) → path_bytes s (collected rows lens weights (i + 1)) ≡ path_bytes s (collected rows lens weights i) ++ path_record s (collected_at rows lens weights i)
-  unfolding collected
+module _ (s : List ℕ) (table : Paths) where
+  collected_more : (i : ℕ) → path_bytes s (first_paths table (i + 1)) ≡ path_bytes s (first_paths table i) ++ path_record s (collected_at table i)
   collected_more i =
-      ap (λ k. path_bytes s (tabulate (collected_at rows lens weights) k 0)) (add-one i) ∙
-      (ap (path_bytes s) (tabulate_snoc (collected_at rows lens weights) i 0 ∙
-      ap (λ j. tabulate (collected_at rows lens weights) i 0 ++ (collected_at rows lens weights j ∷ [])) (let e : 0 + i ≡ i = omega arith in e)) ∙
-      paths_snoc s (tabulate (collected_at rows lens weights) i 0) (collected_at rows lens weights i))
+      ap (λ k. path_bytes s (tabulate (collected_at table) k 0)) (add-one i) ∙
+      (ap (path_bytes s) (tabulate_snoc (collected_at table) i 0 ∙
+      ap (λ j. tabulate (collected_at table) i 0 ++ (collected_at table j ∷ [])) (let e : 0 + i ≡ i = omega arith in e)) ∙
+      paths_snoc s (tabulate (collected_at table) i 0) (collected_at table i))
 
-  pub paths_none : (a : List ℕ) (place : ℕ) → place ≤ length a → Placed a place (path_bytes s (collected rows lens weights 0)) a
-  unfolding collected
+  pub paths_none : (a : List ℕ) (place : ℕ) → place ≤ length a → Placed a place (path_bytes s (first_paths table 0)) a
   paths_none a place h = placed_none a place h
 
-  pub ends_none : {place : ℕ} → place ≡ first_path_at s → PathsEnd s rows lens weights 0 place
-  unfolding collected
+  pub ends_none : {place : ℕ} → place ≡ first_path_at s → PathsEnd s table 0 place
   ends_none e = record { is = omega arith; most = omega (arith, records_none s) }
 
-  pub ends_turn : (i end at : ℕ) → length (get_or rows i []) ≡ row_length → nth lens i ≤ max_path_length s → PathsEnd s rows lens weights i end → at ≡ path_vertices_at s end →
-      PathsEnd s rows lens weights (i + 1) (at + nth lens i)
-  ends_turn i end at wide short E e =
-      let path : List ℕ = take (nth lens i) (get_or rows i []) in
-      let k : length path ≡ nth lens i = length-take-le (nth lens i) (get_or rows i []) (omega (arith, path_in_row_lem s)) in
-      let l = ap length (collected_more i) ∙ length-append (path_bytes s (collected rows lens weights i)) (path_record s (collected_at rows lens weights i)) in
-      let r : length (path_record s (collected_at rows lens weights i)) ≡ 4 + count_bytes s + nth lens i =
-      length-append (bytes32 (nth weights i)) (count_in s (length path) ++ path) ∙ omega (arith, k, length-append (count_in s (length path)) path, count_length s (length path)) in
+  pub ends_turn : (i end next : ℕ) → length (path_at table i).row ≡ row_length → (path_at table i).size ≤ max_path_length s → PathsEnd s table i end →
+      next ≡ path_vertices_at s end + (path_at table i).size → PathsEnd s table (i + 1) next
+  ends_turn i end next wide short E e =
+      let path : List ℕ = take (path_at table i).size (path_at table i).row in
+      let k : length path ≡ (path_at table i).size = length-take-le (path_at table i).size (path_at table i).row (omega (arith, path_in_row_lem s)) in
+      let l = ap length (collected_more i) ∙ length-append (path_bytes s (first_paths table i)) (path_record s (collected_at table i)) in
+      let r : length (path_record s (collected_at table i)) ≡ 4 + count_bytes s + (path_at table i).size =
+      length-append (bytes32 (path_at table i).weight) (count_in s (length path) ++ path) ∙ omega (arith, k, length-append (count_in s (length path)) path, count_length s (length path)) in
       let f = E.is in
       let g = E.most in
       record { is = omega arith; most = omega (arith, records_next s i) }
 
-  pub paths_turn : (a b c : List ℕ) (i end : ℕ) → PathsEnd s rows lens weights i end → Placed a (first_path_at s) (path_bytes s (collected rows lens weights i)) b →
-      Placed b end (path_record s (collected_at rows lens weights i)) c → Placed a (first_path_at s) (path_bytes s (collected rows lens weights (i + 1))) c
+  pub paths_turn : (a b c : List ℕ) (i end : ℕ) → PathsEnd s table i end → Placed a (first_path_at s) (path_bytes s (first_paths table i)) b →
+      Placed b end (path_record s (collected_at table i)) c → Placed a (first_path_at s) (path_bytes s (first_paths table (i + 1))) c
   paths_turn a b c i end E P Q =
       subst (λ x. Placed a (first_path_at s) x c) (sym (collected_more i))
-      (placed_both a b c (first_path_at s) end (path_bytes s (collected rows lens weights i)) (path_record s (collected_at rows lens weights i)) P E.is Q)
+      (placed_both a b c (first_path_at s) end (path_bytes s (first_paths table i)) (path_record s (collected_at table i)) P E.is Q)
 
-pub collected_length : (rows : List (List ℕ)) (lens weights : List ℕ) (count : ℕ) → length (collected rows lens weights count) ≡ count
+-- once all paths of the table are put
+pub all_put : (s : List ℕ) (table : Paths) (a b : List ℕ) (i end : ℕ) → i ≡ table.count → PathsEnd s table i end →
+    Placed a (first_path_at s) (path_bytes s (first_paths table i)) b →
+    Placed a (first_path_at s) (path_bytes s (collected table)) b ×
+    (end ≡ first_path_at s + length (path_bytes s (collected table))) × (end ≤ first_path_at s + longest_records s table.count)
 unfolding collected
-collected_length rows lens weights count = length_tabulate (collected_at rows lens weights) count 0
+all_put s table a b i end e E P = (
+  subst (λ k. Placed a (first_path_at s) (path_bytes s (first_paths table k)) b) e P,
+  E.is ∙ ap (λ k. first_path_at s + length (path_bytes s (first_paths table k))) e,
+  rw (← e) E.most,
+)
+
+pub collected_length : (table : Paths) → length (collected table) ≡ table.count
+unfolding collected
+collected_length table = length_tabulate (collected_at table) table.count 0
 
 -- weight, count and vertices of a path
 pub record_placed : (s a b c d : List ℕ) (place at weight len : ℕ) (row : List ℕ) → length row ≡ row_length → len ≤ max_path_length s → at ≡ path_vertices_at s place →

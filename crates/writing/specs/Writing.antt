@@ -1,6 +1,6 @@
 -- What writing an answer form asks for and does: bytes put into the output, marks that are held with the network's base added, and rows of the table of
 -- collected paths. The builder's last stage cites these; its promise does not.
-use Rattle.std.specs.Prelude.{ℕ, ◌+◌, ◌*◌, ◌≤◌, ◌<◌, ◌≡◌, List, [], ◌++◌, ℤ, length, get_or, take, drop}
+use Rattle.std.specs.Prelude.{ℕ, ◌+◌, ◌*◌, ◌≤◌, ◌<◌, ◌≡◌, List, ◌++◌, ℤ, length, take, drop}
 use Rattle.std.proofs.Math.IntN.{sub_ℕ}
 use Rattle.mathematics.specs.Bound.{Marks}
 use Rattle.forms.specs.Layout.{max_paths, max_path_length}
@@ -9,6 +9,8 @@ use Rattle.forms.specs.GraphReads.{HeaderRight}
 use Rattle.forms.specs.AnswerForm.{path_header_length}
 use Rattle.reads.specs.ReadTable.{row_length}
 use Rattle.network.specs.Network.{nth, base, most_edges}
+use Rattle.paths.specs.declared.collect.Paths.{Paths}
+use Rattle.paths.specs.Peel.{path_at}
 
 -- The bytes put at a place, and nothing else changed.
 pub record Placed (before : List ℕ) (place : ℕ) (bytes after : List ℕ) : Type 0 where
@@ -33,10 +35,10 @@ unfoldable pub longest_records : List ℕ → ℕ → ℕ
 longest_records s count = longest_record s * count
 
 -- the rows of a table of collected paths fit an answer form's fields
-pub record PathsFit (s : List ℕ) (rows : List (List ℕ)) (lens weights : List ℕ) (count : ℕ) : Type 0 where
+pub record PathsFit (s : List ℕ) (table : Paths) : Type 0 where
   pub header : HeaderRight s
-  pub few : count ≤ max_paths s
-  pub tall : length rows ≡ most_edges
-  pub wide : (k : ℕ) → k < count → length (get_or rows k []) ≡ row_length
-  pub short : (k : ℕ) → k < count → nth lens k ≤ max_path_length s
-  pub light : (k : ℕ) → k < count → nth weights k < 4_294_967_296
+  pub few : table.count ≤ max_paths s
+  pub tall : length table.rows ≡ most_edges
+  pub wide : (k : ℕ) → k < table.count → length (path_at table k).row ≡ row_length
+  pub short : (k : ℕ) → k < table.count → (path_at table k).size ≤ max_path_length s
+  pub light : (k : ℕ) → k < table.count → (path_at table k).weight < 4_294_967_296

@@ -1,16 +1,8 @@
--- `certify::row_of` fills a row with the bytes of a read: as many as were passed stand in it.
-use mathlib.Core.Path.{sym}
-use Rattle.certify.proofs.CertifyLawsTable.{row_end, row_turn}
-use Rattle.forms.proofs.PartLaws.{part_none}
-use lib.ListN.{length-set}
-use borrow.Author.Rules.{rules}
+-- `certify::row_of` fills a row with the bytes of a read.
+use Rattle.std.proofs.Common.{replicate}
+use Rattle.reads.specs.ReadTable.{row_length}
+use Rattle.certify.proofs.CertifyLawsTable.{row_filled}
 use Rattle.certify.proofs.row_of.Goals as goal
 
-pub loop-i-init : goal.loop-i-init
-loop-i-init c = (search rules, search rules, sym (part_none _ _))
-
-pub loop-i-preserved : goal.loop-i-preserved
-loop-i-preserved c = (search rules, simp length-set (search rules), row_turn c.args.s.now c.loop-i.row c.args.at c.loop-i.i c.loop-i.invariant.2 (search rules) (search rules))
-
 pub returns : goal.returns
-returns c = (row_end _ _ _ _ c.loop-i.i (search rules) (search rules) (search rules), search rules)
+returns c = row_filled _ _ _ (replicate row_length 0) c.copy_from_slice.new.self c.requires.0 c.requires.1 c.copy_from_slice.ensures.after

@@ -5,20 +5,16 @@ use Rattle.coverage.proofs.DemandLaws.{right_exon, demand_counts, demand_more, d
 use Rattle.coverage.proofs.write_demands.Goals as goal
 
 pub loop-exon-init : goal.loop-exon-init
-loop-exon-init c = (search rules, search rules, search rules, refl)
+loop-exon-init c = refl
 
 pub demand_of-requires : goal.demand_of-requires
 demand_of-requires c =
-    let right = right_exon _ _ c.loop-exon.exon (c.loop-exon.invariant.2 _ (search rules)) in
+    let right = right_exon _ _ c.loop-exon.exon (c.requires.2 _ (search rules)) in
     recorded _ _ _ c.new.ensures.value (search rules) right.0 right.1
 
 pub loop-exon-preserved : goal.loop-exon-preserved
 loop-exon-preserved c =
-    let at = c.loop-exon in
-    let inv = at.invariant in
-    (search rules, search rules, search rules, demand_more _ _ at.demands at.exon _ inv.0 inv.1 (search rules) inv.3 (demand_counts _ _ _ _ c.new.ensures.value c.demand_of.ensures))
+    demand_more _ _ c.loop-exon.demands c.loop-exon.exon _ c.requires.0 (search rules) (search rules) c.loop-exon.invariant (demand_counts _ _ _ _ c.new.ensures.value c.demand_of.ensures)
 
 pub returns : goal.returns
-returns c =
-    let inv = c.loop-exon.invariant in
-    demands_whole _ _ _ c.loop-exon.exon inv.0 inv.1 (search rules) inv.3
+returns c = demands_whole _ _ _ c.loop-exon.exon c.requires.0 (search rules) (search rules) c.loop-exon.invariant

@@ -5,7 +5,7 @@ use Rattle.network.proofs.NetworkLawsPush.{Narrowed}
 use Rattle.network.proofs.bottleneck.Given as goal
 
 abbrev pub invariant-loop-v : goal.invariant-loop-v
-invariant-loop-v l = Narrowed l.nodes l.edges l.from l.to l.cost l.load l.mark l.via l.rank l.source l.target l.limit l.v l.most
+invariant-loop-v l = Narrowed l.network.nodes l.network.edges l.network.from l.network.to l.network.cost l.flow.load l.flow.mark l.search.via l.search.rank l.source l.target l.limit l.v l.most
 
 abbrev pub decreases-loop-v : goal.decreases-loop-v
-decreases-loop-v l = nth l.rank l.v
+decreases-loop-v l = nth l.search.rank l.v

@@ -3,8 +3,8 @@
 use Rattle.network.specs.Network.{nth, Carrying, Carries, OthersKept}
 use Rattle.network.proofs.carry_from.Given as goal
 
-abbrev pub invariant-loop-surplus : goal.invariant-loop-surplus
-invariant-loop-surplus l = Carrying l.nodes l.edges l.live l.from l.to l.cost l.load l.mark l.surplus l.deficit × Carries l.nodes l.edges l.from l.to l.initial.load l.initial.surplus l.initial.deficit l.load l.surplus l.deficit × OthersKept l.source l.initial.surplus l.surplus
+abbrev pub invariant-loop-balance : goal.invariant-loop-balance
+invariant-loop-balance l = Carrying l.network.nodes l.network.edges l.live l.network.from l.network.to l.network.cost l.flow.load l.flow.mark l.balance.surplus l.balance.deficit × Carries l.network.nodes l.network.edges l.network.from l.network.to l.initial.flow.load l.initial.balance.surplus l.initial.balance.deficit l.flow.load l.balance.surplus l.balance.deficit × OthersKept l.source l.initial.balance.surplus l.balance.surplus
 
-abbrev pub decreases-loop-surplus : goal.decreases-loop-surplus
-decreases-loop-surplus l = nth l.surplus l.source
+abbrev pub decreases-loop-balance : goal.decreases-loop-balance
+decreases-loop-balance l = nth l.balance.surplus l.source

@@ -1,5 +1,5 @@
 -- `network::lower` meets its contract: both ways are constructors of what it ensures. Assumes nothing.
-use mathlib.Core.Path.{refl}
+use Rattle.std.proofs.Common.{refl}
 use Rattle.network.specs.Network.{nearer, kept}
 use Rattle.network.proofs.lower.Goals as goal
 

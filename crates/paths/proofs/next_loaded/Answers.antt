@@ -1,6 +1,4 @@
 -- `paths::next_loaded` meets its contract. Assumes nothing.
-use Prim.Native.Nat.{◌-◌}
-use native.Mathlib.Omega.{arith}
 use Rattle.paths.proofs.PeelLaws.{look_first, look_on, look_found, look_none}
 use Rattle.paths.proofs.next_loaded.Goals as goal
 
@@ -9,11 +7,6 @@ loop-h-init c = look_first _ _ _ _ _ _ _ c.requires.chained c.requires.sizes.2
 
 pub returns-then-load-h-gt0 : goal.returns-then-load-h-gt0
 returns-then-load-h-gt0 c = look_found _ _ _ _ _ _ _ c.requires.chained _ c.loop-h.invariant c.loop-h-test.true c.if-load-h-gt0.true
-
-pub loop-h-smaller : goal.loop-h-smaller
-loop-h-smaller c =
-    let l = c.loop-h in
-    omega (arith, c.requires.chained.next_below (l.h - 1) (omega (arith, l.invariant.below)))
 
 pub loop-h-preserved : goal.loop-h-preserved
 loop-h-preserved c = look_on _ _ _ _ _ _ _ c.requires.chained _ c.loop-h.invariant c.loop-h-test.true c.if-load-h-gt0.false

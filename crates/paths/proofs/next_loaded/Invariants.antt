@@ -3,7 +3,7 @@ use Rattle.paths.proofs.PeelLaws.{Looking}
 use Rattle.paths.proofs.next_loaded.Given as goal
 
 abbrev pub invariant-loop-h : goal.invariant-loop-h
-invariant-loop-h l = Looking l.edges l.from l.load l.u l.h
+invariant-loop-h l = Looking l.network.edges l.network.from l.load l.u l.h
 
 abbrev pub decreases-loop-h : goal.decreases-loop-h
 decreases-loop-h l = l.h

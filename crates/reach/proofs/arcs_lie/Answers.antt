@@ -1,27 +1,11 @@
--- `reach::arcs_lie` meets its contract.
-use borrow.Author.Rules.{rules}
-use native.Mathlib.Omega.{arith}
-use mathlib.Core.Path.{◌∙◌}
-use Rattle.forms.proofs.Scan.{scan_begins, scan_turns, scan_stops, scan_ends}
+-- `reach::arcs_lie` meets its contract: the closure says of each arc whether it lies on a path.
+use Rattle.std.proofs.Common.{◌+◌, rules, refl}
+use Rattle.mathematics.specs.Reach.{ask_lies}
+use Rattle.forms.specs.GraphForm.{arc_at}
+use Rattle.forms.specs.GraphOf.{graph_of}
+use Rattle.reach.specs.Reached.{record_ask, lacks}
 use Rattle.reach.proofs.arcs_lie.Goals as goal
 
-pub loop-a-init : goal.loop-a-init
-loop-a-init c = (search rules, search rules, scan_begins _ _ _)
-
-pub arc_lacks-fault-requires : goal.arc_lacks-fault-requires
-arc_lacks-fault-requires c = (c.requires.0, c.loop-a.invariant.1, omega (arith, c.requires.1.arcs))
-
-pub overflow_add-n : goal.overflow_add-n
-overflow_add-n c = omega (arith, c.requires.1.reads.arcs.header.arcs_room, c.requires.1.reads.arcs.header.vertices_room)
-
-pub returns-then-fault-ne0 : goal.returns-then-fault-ne0
-returns-then-fault-ne0 c = c.new.ensures ∙ scan_stops _ _ _ c.loop-a.a _ _ c.loop-a.invariant.2 (search rules) c.arc_lacks-fault.ensures (search rules) (search rules)
-
-pub overflow_add-a : goal.overflow_add-a
-overflow_add-a c = omega (arith, c.requires.1.reads.arcs.header.arcs_room)
-
-pub loop-a-preserved : goal.loop-a-preserved
-loop-a-preserved c = (search rules, search rules, scan_turns _ _ _ _ _ c.loop-a.invariant.2 (search rules) c.arc_lacks-fault.ensures (search rules))
-
 pub returns : goal.returns
-returns c = c.new-2.ensures ∙ scan_ends _ _ _ c.loop-a.a c.loop-a.invariant.2 (search rules)
+unfolding lacks
+returns c = c.first_off.ensures (λ a. ask_lies (graph_of c.args.s.now) (record_ask c.args.s.now (arc_at c.args.s.now a))) (λ a. c.args.n + a) (λ a b l p. search rules) (λ a. refl)

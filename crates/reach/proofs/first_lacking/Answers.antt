@@ -1,15 +1,23 @@
 -- `reach::first_lacking` meets its contract: vertices, then arcs, then reads.
-use borrow.Author.Rules.{rules}
-use mathlib.Core.Path.{sym, ◌∙◌}
-use Rattle.forms.proofs.ThenLaws.{then_refused, then_passed}
+use Rattle.std.proofs.Common.{sym, ◌∙◌}
+use Rattle.std.proofs.lemmas.Result.{err_from_is_err_and}
+use Rattle.forms.proofs.ThenLaws.{then_err, then_ok}
 use Rattle.reach.proofs.ReachLawsLacking.{lie_then}
 use Rattle.reach.proofs.first_lacking.Goals as goal
 
-pub returns-then-vertices-ne0 : goal.returns-then-vertices-ne0
-returns-then-vertices-ne0 c = then_refused _ c.vertices_lie-vertices.ensures c.if-vertices-ne0.true ∙ sym (lie_then (record { reads = c.requires.reads; vertices = c.vertex_count-n.ensures.value; arcs = c.arc_count-m.ensures.value }))
+pub returns-in_err-vertices_lie : goal.returns-in_err-vertices_lie
+returns-in_err-vertices_lie c =
+    let p = err_from_is_err_and c.from_residual.result c.from_residual.ensures.1 in
+    rw (p.1, p.2) (then_err _ _ c.in_err-vertices_lie.ensures ∙
+    sym (lie_then (record { reads = c.requires.reads; vertices = c.vertex_count-n.ensures.value; arcs = c.arc_count-m.ensures.value })))
 
-pub returns-then-arcs-ne0 : goal.returns-then-arcs-ne0
-returns-then-arcs-ne0 c = then_passed c.vertices_lie-vertices.ensures (search rules) (then_refused _ c.arcs_lie-arcs.ensures c.if-arcs-ne0.true) ∙ sym (lie_then (record { reads = c.requires.reads; vertices = c.vertex_count-n.ensures.value; arcs = c.arc_count-m.ensures.value }))
+pub returns-in_err-arcs_lie : goal.returns-in_err-arcs_lie
+returns-in_err-arcs_lie c =
+    let p = err_from_is_err_and c.from_residual-in_err-arcs_lie.result c.from_residual-in_err-arcs_lie.ensures.1 in
+    rw (p.1, p.2) (then_ok c.in_ok-vertices_lie.ensures (then_err _ _ c.in_err-arcs_lie.ensures) ∙
+    sym (lie_then (record { reads = c.requires.reads; vertices = c.vertex_count-n.ensures.value; arcs = c.arc_count-m.ensures.value })))
 
 pub returns : goal.returns
-returns c = then_passed c.vertices_lie-vertices.ensures (search rules) (then_passed c.arcs_lie-arcs.ensures (search rules) c.reads_lie.ensures) ∙ sym (lie_then (record { reads = c.requires.reads; vertices = c.vertex_count-n.ensures.value; arcs = c.arc_count-m.ensures.value }))
+returns c =
+    then_ok c.in_ok-vertices_lie.ensures (then_ok c.in_ok-arcs_lie.ensures c.reads_lie.ensures) ∙
+    sym (lie_then (record { reads = c.requires.reads; vertices = c.vertex_count-n.ensures.value; arcs = c.arc_count-m.ensures.value }))

@@ -1,20 +1,8 @@
--- `reads::close_gap` meets its contract: the rows up to k are those without the gap, and the rows from k on are as they were.
-use Rattle.reads.proofs.JoinLaws.{gap_start, gap_turn, gap_end, gap_table}
-use borrow.Author.Rules.{rules}
+-- `reads::close_gap` meets its contract: the rows behind the gap, and their lengths, are copied to where it was.
+use Rattle.reads.proofs.JoinLaws.{gap_closed}
 use Rattle.reads.proofs.close_gap.Goals as goal
 
-pub loop-k-init : goal.loop-k-init
-loop-k-init c = gap_start _ _ _ _ (search rules) (search rules)
-
-pub loop-k-preserved : goal.loop-k-preserved
-loop-k-preserved c = gap_turn _ _ _ _ _ _ _ (search rules) c.loop-k.invariant (search rules)
-
-pub returns : goal.returns
-returns c =
-    record {
-      left = record {
-        table = gap_table _ _ _ _ _ _ _ (search rules) c.loop-k.invariant (search rules);
-        reads = gap_end _ _ _ _ _ _ _ (search rules) c.loop-k.invariant (search rules);
-      };
-      fewer = search rules;
-    }
+pub returns-clause-left : goal.returns-clause-left
+returns-clause-left c =
+    gap_closed _ _ _ _ c.requires.table c.requires.inside _ _ c.copy_within.ensures.after c.copy_within-2.ensures.after
+    c.copy_within-2.ensures.by_index.0 c.copy_within-2.ensures.by_index.1

@@ -1,40 +1,27 @@
 -- `reads::overlap` meets its contract: the second read's first number has one place in the first read, so there is one candidate.
-use native.Mathlib.Omega.{arith}
-use mathlib.Core.Path.{◌∙◌, sym}
-use Rattle.reads.proofs.OverlapLaws.{meets_first, meets_beyond, meets_inside, meets_long, meets_none, meets_found}
-use borrow.Author.Rules.{rules}
+use Rattle.std.proofs.Common.{◌∙◌, sym, rules}
+use Rattle.reads.proofs.OverlapLaws.{meets_first, meets_beyond, meets_inside, meets_long, meets_else, meets_none, meets_found}
 use Rattle.reads.proofs.overlap.Goals as goal
+use Rattle.reads.proofs.overlap.Goals.{then-first-a-via-then-first-a, then-first-a-via-else-first-a+then-last-first, then-first-a-via-else-first-a+else-last-first+then-b-last, else-end-first-via-then-end-first+then-end-b+else-starts_with, else-end-first-via-then-end-first+else-end-b, else-end-first-via-else-end-first}
 
-pub returns-then-first-rows : goal.returns-then-first-rows
-returns-then-first-rows c = meets_first _ _ _ _ (search rules) (search rules) (search rules)
+pub returns-then-first-a : goal.returns-then-first-a
+returns-then-first-a c =
+    elim c.then-first-a.branch [
+      | then-first-a-via-then-first-a w ↦ meets_first _ _ c.requires.a c.requires.b (search rules)
+      | then-first-a-via-else-first-a+then-last-first w ↦ meets_beyond _ _ c.requires.a c.requires.b (search rules)
+      | then-first-a-via-else-first-a+else-last-first+then-b-last w ↦ meets_inside _ _ c.requires.a c.requires.b (search rules)
+    ]
 
-pub returns-then-last-first : goal.returns-then-last-first
-returns-then-last-first c = meets_beyond _ _ _ _ (search rules) (search rules) (search rules)
+pub returns-then-starts_with : goal.returns-then-starts_with
+returns-then-starts_with c =
+    meets_found _ _ c.requires.a c.requires.b _ c.place-p.ensures
+    (search rules) (search rules) (search rules) (sym c.starts_with.ensures.value ∙ c.if-starts_with.true)
 
-pub returns-then-rows-j : goal.returns-then-rows-j
-returns-then-rows-j c = meets_inside _ _ _ _ (search rules) (search rules) (search rules)
-
-pub overflow_sub-n : goal.overflow_sub-n
-overflow_sub-n c = omega (arith, c.place-p.ensures.within)
-
-pub returns-then-m-n : goal.returns-then-m-n
-returns-then-m-n c = meets_long _ _ _ _ (search rules) (search rules) _ c.place-p.ensures (omega (arith, c.place-p.ensures.within))
-
-pub same_run-requires : goal.same_run-requires
-same_run-requires c =
-    record {
-      read_i = search rules;
-      read_j = search rules;
-      room = omega (arith, c.place-p.ensures.within);
-    }
-
-pub overflow_sub-result : goal.overflow_sub-result
-overflow_sub-result c = omega (arith, c.place-p.ensures.within)
-
-pub returns-then-same_run : goal.returns-then-same_run
-returns-then-same_run c =
-    meets_found _ _ _ _ (search rules) (search rules) _ c.place-p.ensures
-    (search rules) (search rules) (omega (arith, c.place-p.ensures.within)) (sym c.if-same_run.true ∙ c.same_run.ensures)
-
-pub returns-else-same_run : goal.returns-else-same_run
-returns-else-same_run c = meets_none _ _ _ _ (search rules) (search rules) _ c.place-p.ensures (sym c.if-same_run.false ∙ c.same_run.ensures)
+pub returns-else-end-first : goal.returns-else-end-first
+returns-else-end-first c =
+    elim c.else-end-first.branch [
+      | else-end-first-via-then-end-first+then-end-b+else-starts_with w ↦
+          meets_none _ _ c.requires.a c.requires.b _ c.place-p.ensures (sym w.starts_with.ensures.value ∙ w.if-starts_with.false)
+      | else-end-first-via-then-end-first+else-end-b w ↦ meets_long _ _ c.requires.a c.requires.b _ c.place-p.ensures (search rules)
+      | else-end-first-via-else-end-first w ↦ meets_else _ _ c.requires.a c.requires.b _ c.place-p.ensures c.if-last-first.false w.if-end-first.false
+    ]

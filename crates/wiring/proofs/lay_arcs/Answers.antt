@@ -1,54 +1,13 @@
-use Rattle.wiring.proofs.LayLaws.{counted, edges_at, lay_arc, arc_whole, arc_low}
-use Prim.Native.Nat.{◌+◌}
-use native.Mathlib.Omega.{arith}
-use mathlib.Core.Path.{◌≡◌, sym}
-use Rattle.forms.specs.GraphForm.{vertex_count, arc_count}
+use Rattle.std.proofs.Common.{◌≡◌, ◌&&◌, get_or, false}
+use Rattle.wiring.proofs.LayLaws.{counted, lay_arc, stored_where}
 use Rattle.wiring.proofs.lay_arcs.Goals as goal
-
-pub loop-e-init : goal.loop-e-init
-loop-e-init c =
-    let p = c.requires in
-    let n = c.vertex_count-n.ensures.value in
-    (counted p.reads.0 n c.arc_count-m.ensures.value, c.first_arc_at-base.ensures.value, omega arith, omega arith, edges_at p.edges_laid (sym n))
-
-pub arc_tail-u-requires : goal.arc_tail-u-requires
-arc_tail-u-requires c = (c.loop-e.invariant.1, arc_whole c.loop-e.invariant.0 c.loop-e.invariant.2 c.loop-e-test.true)
-
-pub arc_head-v-requires : goal.arc_head-v-requires
-arc_head-v-requires c = (c.loop-e.invariant.1, arc_whole c.loop-e.invariant.0 c.loop-e.invariant.2 c.loop-e-test.true)
-
-pub arc_cost-k-requires : goal.arc_cost-k-requires
-arc_cost-k-requires c = (c.loop-e.invariant.1, arc_whole c.loop-e.invariant.0 c.loop-e.invariant.2 c.loop-e-test.true)
-
-pub bounds-kept-u : goal.bounds-kept-u
-bounds-kept-u c = (arc_low c.loop-e.invariant.0 c.loop-e.invariant.2 c.loop-e-test.true c.arc_tail-u.ensures.value c.arc_head-v.ensures.value).0
-
-pub bounds-kept-v : goal.bounds-kept-v
-bounds-kept-v c = (arc_low c.loop-e.invariant.0 c.loop-e.invariant.2 c.loop-e-test.true c.arc_tail-u.ensures.value c.arc_head-v.ensures.value).1
+use Rattle.wiring.proofs.lay_arcs.Goals.{then-kept-u, else-kept-u}
 
 pub loop-e-preserved : goal.loop-e-preserved
 loop-e-preserved c =
-    let i = c.loop-e.invariant in (
-      i.0,
-      i.1,
-      omega arith,
-      omega arith,
-      lay_arc
-          i.0
-          i.4
-          c.requires.reads.1
-          i.2
-          c.loop-e-test.true
-          c.arc_tail-u.ensures.value
-          c.arc_head-v.ensures.value
-          c.arc_cost-k.ensures.value
-          c.both-used.ensures
-          c.store_edge.ensures,
-    )
-
-pub returns : goal.returns
-returns c =
-    let i = c.loop-e.invariant in
-    let s = c.args.s.now in
-    let e : c.loop-e.e ≡ vertex_count s + arc_count s = omega (arith, i.0.vertices, i.0.arcs) in
-    edges_at i.4 e
+    let p = c.requires in
+    let used : c.if-kept-u.used ≡ get_or c.args.kept.now c.arc_tail-u.result false && get_or c.args.kept.now c.arc_head-v.result false =
+    elim c.if-kept-u.branch [ then-kept-u w ↦ rw (w.used-is, w.if-kept-u.true) | else-kept-u w ↦ rw (w.used-is, w.if-kept-u.false) ]
+    in
+    lay_arc (counted p.reads.0 c.vertex_count-n.ensures.value c.arc_count-m.ensures.value) c.loop-e.invariant p.reads.1 c.loop-e.auto.e c.loop-e-test.true
+    c.arc_tail-u.ensures.value c.arc_head-v.ensures.value c.arc_cost.ensures.value used (stored_where c.then_some.ensures c.store_edge.ensures)

@@ -1,20 +1,9 @@
+use Rattle.std.proofs.Common.{arith}
 use Rattle.wiring.proofs.LayLawsLoad.{live_none, live_more}
-use native.Mathlib.Omega.{arith}
-use mathlib.Core.Path.{◌≡◌}
-use Rattle.forms.specs.GraphForm.{vertex_count}
 use Rattle.wiring.proofs.lay_live.Goals as goal
 
 pub loop-v-init : goal.loop-v-init
-loop-v-init c = (c.vertex_count-n.ensures.value, omega arith, live_none c.args.live.now c.requires.live_len)
+loop-v-init c = live_none c.args.live.now c.requires.live_len
 
 pub loop-v-preserved : goal.loop-v-preserved
-loop-v-preserved c =
-    let i = c.loop-v.invariant in
-    let p = c.requires in
-    (i.0, omega arith, live_more p.reads.1 i.2 (omega arith) (omega arith))
-
-pub returns : goal.returns
-returns c =
-    let i = c.loop-v.invariant in
-    let e : c.loop-v.v ≡ vertex_count c.args.s.now = omega arith in
-    rw e at i.2
+loop-v-preserved c = live_more c.requires.reads.1 c.loop-v.invariant (omega arith) (omega arith)

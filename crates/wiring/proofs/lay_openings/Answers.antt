@@ -1,39 +1,13 @@
-use Rattle.wiring.proofs.LayLaws.{counted, edges_at, lay_opening}
-use Prim.Native.Nat.{ℕ, ◌+◌, ◌*◌}
-use native.Mathlib.Omega.{arith}
-use mathlib.Core.Path.{◌≡◌, refl, sym, ap₂}
-use Rattle.forms.specs.GraphForm.{vertex_count, arc_count}
-use borrow.Author.Rules.{rules}
+use Rattle.std.proofs.Common.{◌≡◌, ◌+◌, ◌*◌, ◌-◌, ◌&&◌, refl, get_or, false}
+use Rattle.wiring.proofs.LayLaws.{counted, lay_opening, stored_where}
 use Rattle.wiring.proofs.lay_openings.Goals as goal
-
-pub loop-e-init : goal.loop-e-init
-loop-e-init c =
-    let p = c.requires in
-    let n = c.vertex_count-n.ensures.value in
-    let m = c.arc_count-m.ensures.value in (
-      counted p.reads.0 n m,
-      c.opening_price-k.ensures.value,
-      omega arith,
-      omega arith,
-      edges_at p.edges_laid (ap₂ (λ (a b : ℕ). a + b) (sym n) (sym m)),
-    )
-
-pub is_start-requires : goal.is_start-requires
-is_start-requires c = (search rules, omega (arith, c.requires.reads.0.arcs.header.vertices_room, c.loop-e.invariant.0.vertices))
+use Rattle.wiring.proofs.lay_openings.Goals.{then-is_start, else-is_start}
 
 pub loop-e-preserved : goal.loop-e-preserved
 loop-e-preserved c =
-    let i = c.loop-e.invariant in (
-      i.0,
-      i.1,
-      omega arith,
-      omega arith,
-      lay_opening i.0 i.4 c.requires.reads.2 refl i.2 c.loop-e-test.true c.is_start.ensures i.1 c.both-used.ensures c.store_edge.ensures,
-    )
-
-pub returns : goal.returns
-returns c =
-    let i = c.loop-e.invariant in
-    let s = c.args.s.now in
-    let e : c.loop-e.e ≡ 2 * vertex_count s + arc_count s = omega (arith, i.0.vertices, i.0.arcs) in
-    edges_at i.4 e
+    let p = c.requires in
+    let used : c.if-is_start.used ≡ c.is_start.result && get_or c.args.kept.now (2 * c.vertex_count-n.result + c.arc_count-m.result - (c.loop-e.e + 1)) false =
+    elim c.if-is_start.branch [ then-is_start w ↦ rw (w.used-is, w.if-is_start.true) | else-is_start w ↦ rw (w.used-is, w.if-is_start.false) ]
+    in
+    lay_opening (counted p.reads.0 c.vertex_count-n.ensures.value c.arc_count-m.ensures.value) c.loop-e.invariant p.reads.2 refl c.loop-e.auto.e c.loop-e-test.true
+    c.is_start.ensures c.opening_price-price.ensures.value used (stored_where c.then_some.ensures c.store_edge.ensures)

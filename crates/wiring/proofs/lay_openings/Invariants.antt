@@ -1,12 +1,5 @@
-use Prim.Native.Nat.{◌+◌, ◌*◌, ◌-◌, ◌≤◌}
-use mathlib.Core.Path.{◌≡◌}
-use Rattle.forms.specs.GraphForm.{opening_price}
-use Rattle.reach.specs.Reached.{FormSizes}
 use Rattle.wiring.specs.Lay.{EdgesLaid}
 use Rattle.wiring.proofs.lay_openings.Given as goal
 
 abbrev pub invariant-loop-e : goal.invariant-loop-e
-invariant-loop-e l = FormSizes l.s l.n l.m × (l.k ≡ opening_price l.s) × (l.n + l.m ≤ l.e) × (l.e ≤ 2 * l.n + l.m) × EdgesLaid l.s l.e l.from l.to l.cost
-
-abbrev pub decreases-loop-e : goal.decreases-loop-e
-decreases-loop-e l = 2 * l.n + l.m - l.e
+invariant-loop-e l = EdgesLaid l.s l.e l.network.from l.network.to l.network.cost

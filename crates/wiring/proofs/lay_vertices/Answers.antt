@@ -1,17 +1,8 @@
-use Rattle.wiring.proofs.LayLaws.{counted, edges_at, lay_vertex}
-use native.Mathlib.Omega.{arith}
-use mathlib.Core.Path.{◌≡◌, refl}
-use Rattle.forms.specs.GraphForm.{vertex_count}
+use Rattle.std.proofs.Common.{refl}
+use Rattle.wiring.proofs.LayLaws.{counted, lay_vertex, stored_where}
 use Rattle.wiring.proofs.lay_vertices.Goals as goal
 
 pub loop-v-preserved : goal.loop-v-preserved
 loop-v-preserved c =
-    let i = c.loop-v.invariant in
     let p = c.requires in
-    (i.0, omega arith, lay_vertex (counted p.reads.0 i.0 refl) i.2 p.reads.1 (omega arith) c.store_edge.ensures)
-
-pub returns : goal.returns
-returns c =
-    let i = c.loop-v.invariant in
-    let e : c.loop-v.v ≡ vertex_count c.args.s.now = omega arith in
-    edges_at i.2 e
+    lay_vertex (counted p.reads.0 c.vertex_count-v-end.ensures.value refl) c.loop-v.invariant p.reads.1 c.loop-v-test.true (stored_where c.then_some.ensures c.store_edge.ensures)

@@ -1,11 +1,5 @@
-use Prim.Native.Nat.{◌-◌, ◌≤◌}
-use mathlib.Core.Path.{◌≡◌}
-use Rattle.forms.specs.GraphForm.{vertex_count}
 use Rattle.wiring.specs.Lay.{EdgesLaid}
 use Rattle.wiring.proofs.lay_vertices.Given as goal
 
 abbrev pub invariant-loop-v : goal.invariant-loop-v
-invariant-loop-v l = (l.n ≡ vertex_count l.s) × (l.v ≤ l.n) × EdgesLaid l.s l.v l.from l.to l.cost
-
-abbrev pub decreases-loop-v : goal.decreases-loop-v
-decreases-loop-v l = l.n - l.v
+invariant-loop-v l = EdgesLaid l.s l.v l.network.from l.network.to l.network.cost

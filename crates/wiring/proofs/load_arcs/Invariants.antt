@@ -1,12 +1,5 @@
-use Prim.Native.Nat.{◌+◌, ◌-◌, ◌≤◌}
-use mathlib.Core.Path.{◌≡◌}
-use Rattle.forms.specs.GraphForm.{first_arc_at}
-use Rattle.reach.specs.Reached.{FormSizes}
 use Rattle.wiring.specs.Lay.{LoadsLaid}
 use Rattle.wiring.proofs.load_arcs.Given as goal
 
 abbrev pub invariant-loop-e : goal.invariant-loop-e
-invariant-loop-e l = FormSizes l.s l.n l.m × (l.base ≡ first_arc_at l.s) × (l.n ≤ l.e) × (l.e ≤ l.n + l.m) × LoadsLaid l.s l.e l.load
-
-abbrev pub decreases-loop-e : goal.decreases-loop-e
-decreases-loop-e l = l.n + l.m - l.e
+invariant-loop-e l = LoadsLaid l.s l.e l.load

@@ -1,5 +1,5 @@
 -- `writing::put_count` meets its contract.
-use native.Mathlib.Omega.{arith}
+use Rattle.std.proofs.Common.{arith}
 use Rattle.forms.proofs.LayoutLaws.{count_inside}
 use Rattle.writing.proofs.WritingLaws.{count_placed, path_in_row_lem}
 use Rattle.writing.proofs.put_count.Goals as goal

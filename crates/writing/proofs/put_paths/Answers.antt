@@ -1,38 +1,52 @@
--- `writing::put_paths` meets its contract. The loop's invariant: the records of the first i paths are put, `end` is the place behind them, and no record is longer than the longest.
-use native.Mathlib.Omega.{arith}
-use mathlib.Core.Path.{◌≡◌, refl}
+-- `writing::put_paths` meets its contract: the record of one path stands behind those of the paths before it.
+use Rattle.std.proofs.Common.{◌≡◌, ◌+◌, ◌≤◌, ◌<◌, sym, ap, ◌∙◌, subst, length, arith}
+use Rattle.forms.specs.AnswerForm.{path_vertices_at}
+use Rattle.forms.specs.Layout.{max_path_length}
 use Rattle.forms.proofs.LayoutLaws.{paths_room}
-use Rattle.writing.proofs.WritingLaws.{ends_none, ends_turn, paths_none, paths_turn, placed_length, record_room}
+use Rattle.checker.specs.Encode.{path_record}
+use Rattle.reads.specs.ReadTable.{row_length}
+use Rattle.paths.specs.declared.collect.Path.{Path}
+use Rattle.paths.specs.Peel.{weighted_of}
+use Rattle.writing.specs.Writing.{Placed}
+use Rattle.writing.proofs.WritingLaws.{slice_long, row_of, ends_turn, paths_turn, all_put, record_room}
 use Rattle.writing.proofs.put_paths.Goals as goal
 
-pub first_path_at-end-requires : goal.first_path_at-end-requires
-first_path_at-end-requires c = c.requires.1.header.long
+pub as_slice-path-items-requires : goal.as_slice-path-items-requires
+as_slice-path-items-requires c = omega (arith, c.requires.1.few, paths_room c.args.s.now)
 
-pub loop-i-init : goal.loop-i-init
-loop-i-init c = (omega arith, refl, ends_none _ _ _ _ c.first_path_at-end.ensures.value, paths_none _ _ _ _ _ _ (omega arith))
+pub put_path-end-requires-clause-room : goal.put_path-end-requires-clause-room
+put_path-end-requires-clause-room c =
+    let long = slice_long _ _ _ c.requires.1 c.as_slice-path-items.ensures in
+    omega (arith, c.loop-path.invariant.0.most, record_room c.args.s.now c.loop-path.path-index c.args.paths.now.count (omega arith))
 
-pub put_path-requires : goal.put_path-requires
-put_path-requires c = let t = c.loop-i-test.true in let P = c.requires.1 in (omega (arith, c.loop-i.invariant.2.most, record_room c.args.s.now c.loop-i.i c.args.count t), omega (arith, P.few, paths_room c.args.s.now), P.short _ t, P.light _ t, P.wide _ t)
+pub put_path-end-requires-clause-fits : goal.put_path-end-requires-clause-fits
+put_path-end-requires-clause-fits c =
+    let fit = c.requires.1 in
+    let k = c.loop-path.path-index in
+    let long = slice_long _ _ _ fit c.as_slice-path-items.ensures in
+    let inside : k < c.args.paths.now.count = omega arith in
+    let same = row_of _ _ k c.as_slice-path-items.ensures inside in
+    subst (λ (p : Path). (p.size ≤ max_path_length c.args.s.now) × (p.weight < 4_294_967_296) × (length p.row ≡ row_length)) (sym same)
+    (fit.short k inside, fit.light k inside, fit.wide k inside)
 
-pub path_vertices_at-requires : goal.path_vertices_at-requires
-path_vertices_at-requires c = omega (arith, c.loop-i.invariant.2.most, record_room c.args.s.now c.loop-i.i c.args.count c.loop-i-test.true)
-
-pub offset_bounds-lens-i : goal.offset_bounds-lens-i
-offset_bounds-lens-i c = omega (arith, c.requires.1.few, paths_room c.args.s.now)
-
-pub bounds-lens-i : goal.bounds-lens-i
-bounds-lens-i c = omega (arith, c.requires.1.few, paths_room c.args.s.now)
-
-pub overflow_add-end : goal.overflow_add-end
-overflow_add-end c = omega (arith, c.path_vertices_at.ensures, c.requires.1.short _ c.loop-i-test.true, c.loop-i.invariant.2.most, record_room c.args.s.now c.loop-i.i c.args.count c.loop-i-test.true)
-
-pub loop-i-preserved : goal.loop-i-preserved
-loop-i-preserved c = let t = c.loop-i-test.true in let P = c.requires.1 in let I = c.loop-i.invariant in let Q = paths_turn _ _ _ _ _ _ _ _ _ I.2 I.3 c.put_path.ensures in (omega arith, placed_length _ _ _ _ Q, ends_turn _ _ _ _ _ _ _ (P.wide _ t) (P.short _ t) I.2 c.path_vertices_at.ensures, Q)
+pub loop-path-preserved : goal.loop-path-preserved
+loop-path-preserved c =
+    let fit = c.requires.1 in
+    let l = c.loop-path in
+    let k = l.path-index in
+    let put = c.put_path-end.ensures in
+    let long = slice_long _ _ _ fit c.as_slice-path-items.ensures in
+    let inside : k < c.args.paths.now.count = omega arith in
+    let same = row_of _ _ k c.as_slice-path-items.ensures inside in (
+      ends_turn _ _ k l.end _ (fit.wide k inside) (fit.short k inside) l.invariant.0
+          (put.value ∙ ap (λ (p : Path). path_vertices_at c.args.s.now l.end + p.size) same),
+      paths_turn _ _ _ _ _ k l.end l.invariant.0 l.invariant.1
+          (subst (λ (p : Path). Placed l.out l.end (path_record c.args.s.now (weighted_of p)) c.put_path-end.new.out) same put.placed),
+    )
 
 pub returns : goal.returns
 returns c =
-    let e : c.loop-i.i ≡ c.args.count = omega arith in let I = c.loop-i.invariant in
-    record {
-      placed = rw (← e) I.3;
-      value = rw (← e) (I.2.is, I.2.most);
-    }
+    let l = c.loop-path in
+    let long = slice_long _ _ _ c.requires.1 c.as_slice-path-items.ensures in
+    let all = all_put c.args.s.now c.args.paths.now c.args.out.now l.out l.path-index l.end (omega arith) l.invariant.0 l.invariant.1 in
+    record { placed = all.0; value = (all.1, all.2) }

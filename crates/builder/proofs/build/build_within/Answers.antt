@@ -1,35 +1,31 @@
--- `builder::build::build_within` meets its contract: one law of FinishLawsPromise for each way through the call. Assumes nothing.
+-- `builder::build::build_within` meets its contract: one law of FinishLawsPromise for each way through the call.
+use Rattle.std.proofs.lemmas.Result.{err_from_is_err_and}
 use Rattle.builder.proofs.FinishLawsPromise.{promise_unread, reads_then, graph_reads, promise_refused, coverable_then, room_then, promise_built}
-use mathlib.Core.Bool.{Bool, false}
-use lib.ListN.{length-replicate}
-use Rattle.forms.specs.Limits.{room_vertices}
 use Rattle.builder.proofs.build.build_within.Goals as goal
 
-pub returns-then-read-ne0 : goal.returns-then-read-ne0
-returns-then-read-ne0 c = promise_unread _ _ _ c.read_graph-read.ensures c.if-read-ne0.true
+pub returns-in_err-read_graph : goal.returns-in_err-read_graph
+returns-in_err-read_graph c =
+    let p = err_from_is_err_and c.from_residual.result c.from_residual.ensures.1 in
+    rw (p.1, p.2) (promise_unread _ _ _ c.in_err-read_graph.ensures)
 
 pub roles-roles-requires : goal.roles-roles-requires
-roles-roles-requires c = reads_then _ c.args.out.now _ c.read_graph-read.ensures c.if-read-ne0.false
+roles-roles-requires c = reads_then _ c.args.out.now c.in_ok-read_graph.ensures
 
-pub reach_from_starts-requires : goal.reach_from_starts-requires
-reach_from_starts-requires c = (reads_then _ c.args.out.now _ c.read_graph-read.ensures c.if-read-ne0.false, c.roles-roles.ensures, length-replicate {A = Bool} room_vertices false)
+pub of-reach-requires : goal.of-reach-requires
+of-reach-requires c = (reads_then _ c.args.out.now c.in_ok-read_graph.ensures, c.roles-roles.ensures)
 
-pub reach_ends-requires : goal.reach_ends-requires
-reach_ends-requires c = (reads_then _ c.args.out.now _ c.read_graph-read.ensures c.if-read-ne0.false, c.roles-roles.ensures, length-replicate {A = Bool} room_vertices false)
+pub returns-in_err-first_refusal : goal.returns-in_err-first_refusal
+returns-in_err-first_refusal c =
+    let p = err_from_is_err_and c.from_residual-in_err-first_refusal.result c.from_residual-in_err-first_refusal.ensures.1 in
+    rw (p.1, p.2) (promise_refused _ _ c.in_ok-read_graph.ensures _ c.in_err-first_refusal.ensures)
 
-pub first_lacking-lacking-requires : goal.first_lacking-lacking-requires
-first_lacking-lacking-requires c = record { reads = reads_then _ c.args.out.now _ c.read_graph-read.ensures c.if-read-ne0.false; starts = c.reach_from_starts.ensures; ends = c.reach_ends.ensures }
-
-pub returns-then-is_refused : goal.returns-then-is_refused
-returns-then-is_refused c = promise_refused _ _ _ c.read_graph-read.ensures c.if-read-ne0.false _ c.first_lacking-lacking.ensures _ c.first_refusal-refused.ensures c.if-is_refused.true
-
-pub answer-written-requires : goal.answer-written-requires
-answer-written-requires c =
-    let o = c.args.out.now in let e = c.read_graph-read.ensures in let z = c.if-read-ne0.false in let l = c.first_lacking-lacking.ensures in let f = c.first_refusal-refused.ensures in let n = c.if-is_refused.false in
+pub answer-requires : goal.answer-requires
+answer-requires c =
+    let o = c.args.out.now in let e = c.in_ok-read_graph.ensures in let n = c.in_ok-first_refusal.ensures in
     record {
-      reachable = (record { reads = reads_then _ o _ e z; starts = c.reach_from_starts.ensures; ends = c.reach_ends.ensures }, c.roles-roles.ensures, coverable_then _ o _ e z _ l _ f n, graph_reads _ o _ e z);
-      s_in_bounds = room_then _ o _ e z _ l _ f n;
+      reachable = (c.of-reach.ensures, c.roles-roles.ensures, coverable_then _ o e n, graph_reads _ o e);
+      s_in_bounds = room_then _ o e n;
     }
 
 pub returns : goal.returns
-returns c = promise_built _ _ _ c.read_graph-read.ensures c.if-read-ne0.false _ c.first_lacking-lacking.ensures _ c.first_refusal-refused.ensures c.if-is_refused.false _ _ c.answer-written.ensures
+returns c = promise_built _ _ c.in_ok-read_graph.ensures c.in_ok-first_refusal.ensures c.answer.ensures

@@ -1,4 +1,4 @@
--- `builder::build::prepare_table` meets its contract: the table holds what preparing the reads of the form leaves, and the counts are of those. Assumes nothing.
+-- `builder::build::prepare_table` meets its contract: the table holds what preparing the reads of the form leaves, and the counts are of those.
 use Rattle.builder.proofs.FinishLawsStages.{reads_ready}
 use Rattle.builder.proofs.build.prepare_table.Goals as goal
 

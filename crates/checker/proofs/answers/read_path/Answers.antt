@@ -1,41 +1,40 @@
 -- `checker::answers::read_path` judges one path's record and tallies it.
-use mathlib.Core.Path.{sym, ◌∙◌}
-use Rattle.checker.proofs.AnswerPaths.{record_refused, record_no_path, record_no_order, record_right, fault_head, room_for, head_room}
+use Rattle.std.proofs.Common.{refl, ◌-◌, take, drop, arith}
+use Rattle.std.proofs.lemmas.Result.{err_from_is_err_and}
+use Rattle.forms.proofs.ThenLaws.{number_positive}
 use Rattle.tally.proofs.PathWalkLaws.{walked_rises}
-use native.Mathlib.Omega.{arith}
-use borrow.Author.Tests.{not-true, not-false}
+use Rattle.checker.proofs.AnswerLaws.{not_after}
+use Rattle.checker.proofs.AnswerPaths.{record_refused, record_no_path, record_no_order, record_right, fault_head, path_slice, path_slice_long, head_room}
 use Rattle.checker.proofs.answers.read_path.Goals as goal
 
-pub returns-then-fault-ne0 : goal.returns-then-fault-ne0
-returns-then-fault-ne0 c = record_refused _ _ _ _ _ (fault_head _ _ _ _ _ _ c.path_head_fault-fault.ensures.value c.if-fault-ne0.true) c.if-fault-ne0.true
+pub returns-in_err-path_head_fault-clause-read : goal.returns-in_err-path_head_fault-clause-read
+returns-in_err-path_head_fault-clause-read c =
+    let p = err_from_is_err_and c.from_residual.result c.from_residual.ensures.1 in
+    rw (p.1, p.2)
+    (record_refused _ _ _ _ _ (fault_head _ _ _ _ _ _ c.in_err-path_head_fault.ensures.value (number_positive _)) (number_positive _))
 
-pub path_weight-weight-requires : goal.path_weight-weight-requires
-path_weight-weight-requires c = omega (arith, (c.path_head_fault-fault.ensures.right c.if-fault-ne0.false))
+pub walk_path-walked-requires-clause-reads : goal.walk_path-walked-requires-clause-reads
+walk_path-walked-requires-clause-reads c =
+    let head = c.in_ok-path_head_fault.ensures.right in
+    let long = path_slice_long head c.path_vertices_at.ensures c.path_end.ensures in
+    (c.requires.reads.0, c.requires.reads.1, c.requires.reads.2, omega (arith, long, head), omega (arith, long, head_room head))
 
-pub path_length-lb-requires : goal.path_length-lb-requires
-path_length-lb-requires c = omega (arith, (c.path_head_fault-fault.ensures.right c.if-fault-ne0.false))
+pub returns-in_default-clause-read : goal.returns-in_default-clause-read
+returns-in_default-clause-read c =
+    let ok = c.in_ok-path_head_fault.ensures in
+    record_no_path _ _ _ _ _ ok.right ok.value c.path_weight-weight.ensures.value (path_slice _ _ _ c.path_vertices_at.ensures c.path_end.ensures) c.in_default.ensures refl
 
-pub path_vertices_at-b-requires : goal.path_vertices_at-b-requires
-path_vertices_at-b-requires c = omega (arith, (c.path_head_fault-fault.ensures.right c.if-fault-ne0.false))
-
-pub walk_path-walk-requires : goal.walk_path-walk-requires
-walk_path-walk-requires c =
-    record {
-      reads = (c.requires.reads.0, c.requires.reads.1, c.requires.reads.2, omega (arith, (c.path_head_fault-fault.ensures.right c.if-fault-ne0.false), c.path_length-lb.ensures.value, c.path_vertices_at-b.ensures), omega (arith, head_room (c.path_head_fault-fault.ensures.right c.if-fault-ne0.false), c.path_length-lb.ensures.value, c.path_vertices_at-b.ensures));
-      lb_in_bounds = (omega (arith, (c.path_head_fault-fault.ensures.right c.if-fault-ne0.false), c.path_length-lb.ensures.value, c.path_vertices_at-b.ensures), room_for c.requires.totals_fit.0 (omega (arith, (c.path_head_fault-fault.ensures.right c.if-fault-ne0.false), c.path_weight-weight.ensures.value)));
-    }
-
-pub returns-then-not-walk : goal.returns-then-not-walk
-returns-then-not-walk c = record_no_path _ _ _ _ _ (c.path_head_fault-fault.ensures.right c.if-fault-ne0.false) (sym c.path_head_fault-fault.ensures.value ∙ c.if-fault-ne0.false) c.path_weight-weight.ensures.value c.path_length-lb.ensures.value c.path_vertices_at-b.ensures c.walk_path-walk.ensures (not-true _ c.if-not-walk.true)
-
-pub comes_before-requires : goal.comes_before-requires
-comes_before-requires c = (c.requires.reads.4, omega (arith, (c.path_head_fault-fault.ensures.right c.if-fault-ne0.false), c.path_length-lb.ensures.value, c.path_vertices_at-b.ensures))
-
-pub returns-then-not-comes_before : goal.returns-then-not-comes_before
-returns-then-not-comes_before c = record_no_order _ _ _ _ _ (c.path_head_fault-fault.ensures.right c.if-fault-ne0.false) (sym c.path_head_fault-fault.ensures.value ∙ c.if-fault-ne0.false) c.path_weight-weight.ensures.value c.path_length-lb.ensures.value c.path_vertices_at-b.ensures c.walk_path-walk.ensures (not-false _ c.if-not-walk.false) c.comes_before.ensures c.if-not-comes_before.true
+pub returns-then-le-clause-read : goal.returns-then-le-clause-read
+returns-then-le-clause-read c =
+    let ok = c.in_ok-path_head_fault.ensures in
+    let order = not_after (take (c.path_end.result - c.path_vertices_at.result) (drop c.path_vertices_at.result c.args.t.now)) c.args.before.now _ c.le.ensures in
+    record_no_order _ _ _ _ _ ok.right ok.value c.path_weight-weight.ensures.value (path_slice _ _ _ c.path_vertices_at.ensures c.path_end.ensures) c.in-Some.ensures refl order c.if-le.true
 
 pub mark_reads-requires : goal.mark_reads-requires
-mark_reads-requires c = (c.requires.reads.0, omega (arith, (c.path_head_fault-fault.ensures.right c.if-fault-ne0.false), c.path_length-lb.ensures.value, c.path_vertices_at-b.ensures), c.requires.totals_fit.1, walked_rises c.requires.reads.0 c.walk_path-walk.ensures (not-false _ c.if-not-walk.false))
+mark_reads-requires c = (c.requires.reads.0, c.requires.totals_fit.1, walked_rises c.requires.reads.0 c.in-Some.ensures refl)
 
-pub returns : goal.returns
-returns c = record_right _ _ _ _ _ (c.path_head_fault-fault.ensures.right c.if-fault-ne0.false) (sym c.path_head_fault-fault.ensures.value ∙ c.if-fault-ne0.false) c.path_weight-weight.ensures.value c.path_length-lb.ensures.value c.path_vertices_at-b.ensures c.walk_path-walk.ensures (not-false _ c.if-not-walk.false) c.comes_before.ensures c.if-not-comes_before.false c.mark_reads.ensures
+pub returns-clause-read : goal.returns-clause-read
+returns-clause-read c =
+    let ok = c.in_ok-path_head_fault.ensures in
+    let order = not_after (take (c.path_end.result - c.path_vertices_at.result) (drop c.path_vertices_at.result c.args.t.now)) c.args.before.now _ c.le.ensures in
+    record_right _ _ _ _ _ ok.right ok.value c.path_weight-weight.ensures.value (path_slice _ _ _ c.path_vertices_at.ensures c.path_end.ensures) c.in-Some.ensures refl order c.if-le.false c.mark_reads.ensures

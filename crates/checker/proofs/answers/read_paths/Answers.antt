@@ -1,52 +1,43 @@
 -- `checker::answers::read_paths` reads one record after another: what is tallied and what the records left add is what all give.
-use Rattle.checker.proofs.AnswerPaths.{paths_begin, paths_room, paths_stop, paths_remain, paths_end, paths_turn, price_low, paths_told, head_within, head_low}
-use mathlib.Core.Path.{sym, ◌∙◌}
-use native.Mathlib.Omega.{arith}
-use borrow.Author.Rules.{rules}
+use Rattle.std.proofs.Common.{refl, sym, arith, rules}
+use Rattle.forms.proofs.ThenLaws.{number_positive}
+use Rattle.checker.proofs.AnswerLaws.{count_stands}
+use Rattle.checker.proofs.AnswerPaths.{paths_begin, paths_room, paths_stop, paths_remain, paths_end, paths_turn, price_low, head_low}
 use Rattle.checker.proofs.answers.read_paths.Goals as goal
 
-pub loop-left-init : goal.loop-left-init
-loop-left-init c = (paths_begin c.requires.reads.0 c.requires.reads.3 c.requires.nothing_tallied c.requires.reads.4 (search rules), c.opening_price-opening.ensures.value)
+pub path_count-paths-requires : goal.path_count-paths-requires
+path_count-paths-requires c = count_stands c.args.s.now _ c.requires.reads.3
 
-pub read_path-path-requires : goal.read_path-path-requires
-read_path-path-requires c =
+pub loop-init : goal.loop-init
+loop-init c = paths_begin c.requires.reads.0 c.requires.reads.3 c.requires.nothing_tallied (omega (arith, c.path_count-paths.ensures.value)) c.first_path_at-at.ensures.value
+
+pub read_path-requires : goal.read_path-requires
+read_path-requires c =
     record {
-      reads = (c.requires.reads.0, c.requires.reads.1, c.requires.reads.2, search rules, search rules, search rules);
-      totals_fit = (paths_room c.loop-left.invariant.0, search rules);
+      reads = (c.requires.reads.0, c.requires.reads.1, c.requires.reads.2, search rules, search rules);
+      totals_fit = (paths_room c.loop.invariant, search rules);
     }
 
-pub returns-then-fault-ne0 : goal.returns-then-fault-ne0
-returns-then-fault-ne0 c = paths_told c.new.ensures (paths_stop c.loop-left.invariant.0 c.loop-left-test.true c.read_path-path.ensures.is_fault c.if-fault-ne0.true)
+pub returns-in-Err : goal.returns-in-Err
+returns-in-Err c = rw (c.new.ensures.0, c.new.ensures.1) (paths_stop c.loop.invariant (omega arith) c.in-Err.ensures.read.is_fault (number_positive _))
 
-pub path_weight-weight-requires : goal.path_weight-weight-requires
-path_weight-weight-requires c = omega (arith, (c.read_path-path.ensures.tallied c.if-fault-ne0.false).head)
+pub overflow_add-tallies-in-loop : goal.overflow_add-tallies-in-loop
+overflow_add-tallies-in-loop c =
+    let read = c.in-Ok.ensures.read in
+    let done = read.tallied refl in
+    omega (arith, price_low c.loop.invariant (omega arith) done (sym read.is_fault) c.path_weight-weight.result c.opening_price-opening.result (omega (arith, c.opening_price-opening.ensures.value, c.requires.reads.0.arcs.header.low_opening)), head_low done.head, c.path_weight-weight.ensures.value, c.loop.invariant.within, c.in-Ok.ensures.kept)
 
-pub path_length-lp-requires : goal.path_length-lp-requires
-path_length-lp-requires c = omega (arith, (c.read_path-path.ensures.tallied c.if-fault-ne0.false).head)
+pub overflow_add-tallies-in-loop-2 : goal.overflow_add-tallies-in-loop-2
+overflow_add-tallies-in-loop-2 c = omega (arith, head_low (c.in-Ok.ensures.read.tallied refl).head, c.path_weight-weight.ensures.value, c.in-Ok.ensures.kept)
 
-pub path_vertices_at-p-requires : goal.path_vertices_at-p-requires
-path_vertices_at-p-requires c = omega (arith, head_within (c.read_path-path.ensures.tallied c.if-fault-ne0.false).head)
-
-pub overflow_add-price : goal.overflow_add-price
-overflow_add-price c = omega (arith, (c.read_path-path.ensures.tallied c.if-fault-ne0.false).low_cost, c.loop-left.invariant.1, c.requires.reads.0.arcs.header.low_opening)
-
-pub overflow_mul-price : goal.overflow_mul-price
-overflow_mul-price c = omega (arith, price_low c.loop-left.invariant.0 c.loop-left-test.true (c.read_path-path.ensures.tallied c.if-fault-ne0.false) (sym c.read_path-path.ensures.is_fault ∙ c.if-fault-ne0.false) c.path_weight-weight.result c.opening_price-opening.result (omega (arith, c.loop-left.invariant.1, c.requires.reads.0.arcs.header.low_opening)), head_low (c.read_path-path.ensures.tallied c.if-fault-ne0.false).head, c.path_weight-weight.ensures.value)
-
-pub overflow_add-price-in-loop-left : goal.overflow_add-price-in-loop-left
-overflow_add-price-in-loop-left c = omega (arith, price_low c.loop-left.invariant.0 c.loop-left-test.true (c.read_path-path.ensures.tallied c.if-fault-ne0.false) (sym c.read_path-path.ensures.is_fault ∙ c.if-fault-ne0.false) c.path_weight-weight.result c.opening_price-opening.result (omega (arith, c.loop-left.invariant.1, c.requires.reads.0.arcs.header.low_opening)), head_low (c.read_path-path.ensures.tallied c.if-fault-ne0.false).head, c.path_weight-weight.ensures.value, c.loop-left.invariant.0.within)
-
-pub overflow_add-copies : goal.overflow_add-copies
-overflow_add-copies c = omega (arith, head_low (c.read_path-path.ensures.tallied c.if-fault-ne0.false).head, c.path_weight-weight.ensures.value)
-
-pub overflow_add-at : goal.overflow_add-at
-overflow_add-at c = omega (arith, (c.read_path-path.ensures.tallied c.if-fault-ne0.false).head, c.path_length-lp.ensures.value, c.path_vertices_at-p.ensures)
-
-pub loop-left-preserved : goal.loop-left-preserved
-loop-left-preserved c = (paths_turn c.loop-left.invariant.0 c.loop-left-test.true (c.read_path-path.ensures.tallied c.if-fault-ne0.false) (sym c.read_path-path.ensures.is_fault ∙ c.if-fault-ne0.false) c.path_weight-weight.ensures.value c.path_length-lp.ensures.value c.path_vertices_at-p.ensures c.loop-left.invariant.1 c.requires.reads.0.arcs.header.low_opening, c.loop-left.invariant.1)
+pub loop-preserved : goal.loop-preserved
+loop-preserved c =
+    let read = c.in-Ok.ensures.read in
+    paths_turn c.loop.invariant (omega arith) (read.tallied refl) (sym read.is_fault) c.in-Ok.ensures.kept c.path_weight-weight.ensures.value c.opening_price-opening.ensures.value c.requires.reads.0.arcs.header.low_opening
+    c.path_vertices_at-from.ensures c.path_end-at.ensures (omega arith)
 
 pub returns-then-at-t : goal.returns-then-at-t
-returns-then-at-t c = paths_told c.new-then-at-t.ensures (paths_remain c.loop-left.invariant.0 (search rules) (search rules))
+returns-then-at-t c = rw (c.new-then-at-t.ensures.0, c.new-then-at-t.ensures.1) (paths_remain c.loop.invariant (omega arith) (search rules))
 
 pub returns : goal.returns
-returns c = paths_told c.new-2.ensures (paths_end c.loop-left.invariant.0 (search rules) (search rules) c.requires.reads.0)
+returns c = paths_end c.loop.invariant (omega arith) (search rules) c.requires.reads.0

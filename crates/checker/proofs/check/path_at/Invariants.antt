@@ -2,8 +2,5 @@
 use Rattle.checker.proofs.CertifyLawsHandOut.{Passing}
 use Rattle.checker.proofs.check.path_at.Given as goal
 
-abbrev pub invariant-loop-left : goal.invariant-loop-left
-invariant-loop-left l = Passing l.s l.t l.k l.from l.at l.left
-
-abbrev pub decreases-loop-left : goal.decreases-loop-left
-decreases-loop-left l = l.left
+abbrev pub invariant-loop : goal.invariant-loop
+invariant-loop l = Passing l.s l.t l.k l.from l.at l.counter

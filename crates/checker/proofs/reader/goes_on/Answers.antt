@@ -1,13 +1,14 @@
 -- `checker::reader::goes_on` meets its contract: an arc is found exactly where there is one.
-use Rattle.forms.proofs.WalkLaws.{goes_outside, goes_arc, goes_nowhere}
-use borrow.Author.Rules.{rules}
+use Rattle.std.proofs.Common.{arith}
+use Rattle.forms.specs.ArcTable.{goes_on}
+use Rattle.std.proofs.lemmas.Bool.Decides.{nat_tests}
+use Rattle.forms.proofs.WalkLaws.{found_is}
 use Rattle.checker.proofs.reader.goes_on.Goals as goal
 
-pub returns-then-n-v : goal.returns-then-n-v
-returns-then-n-v c = goes_outside _ _ _ _ (search rules)
+pub returns-then-v-n : goal.returns-then-v-n
+unfolding goes_on
+returns-then-v-n c = grind (arith, nat_tests, found_is)
 
-pub returns-in-At : goal.returns-in-At
-returns-in-At c = goes_arc _ _ _ _ _ (search rules) c.in-At.ensures
-
-pub returns-in-Missing : goal.returns-in-Missing
-returns-in-Missing c = goes_nowhere _ _ _ _ (search rules) c.in-Missing.ensures
+pub returns-else-v-n : goal.returns-else-v-n
+unfolding goes_on
+returns-else-v-n c = grind (arith, nat_tests)

@@ -1,12 +1,8 @@
 -- `forms::bytes::be16` gives the number of specs/Bytes.
-use native.Mathlib.Omega.{arith}
+use Rattle.std.proofs.Common.{arith}
 use Rattle.forms.specs.Bytes.{be16}
 use Rattle.forms.proofs.bytes.be16.Goals as goal
 
-pub returns : goal.returns
+pub returns-clause-value : goal.returns-clause-value
 unfolding be16
-returns c =
-    record {
-      value = omega arith;
-      small = omega arith;
-    }
+returns-clause-value c = omega arith

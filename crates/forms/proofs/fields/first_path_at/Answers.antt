@@ -6,9 +6,5 @@ use Rattle.forms.proofs.fields.first_path_at.Goals as goal
 pub in_mark_at-requires : goal.in_mark_at-requires
 in_mark_at-requires c = mark_fits _ _ (search rules)
 
-pub returns : goal.returns
-returns c =
-    record {
-      value = cc;
-      small = mark_range _ _ _ c.in_mark_at.ensures (search rules);
-    }
+pub returns-clause-small : goal.returns-clause-small
+returns-clause-small c = mark_range _ _ _ c.in_mark_at.ensures (search rules)

@@ -1,11 +1,6 @@
 -- `forms::layout::max_weight` gives the limit of the version.
-use borrow.Author.Rules.{rules}
 use Rattle.forms.proofs.LayoutLaws.{max_weight_is}
 use Rattle.forms.proofs.layout.max_weight.Goals as goal
 
-pub returns : goal.returns
-returns c =
-    record {
-      value = max_weight_is _;
-      small = search rules;
-    }
+pub returns-clause-value : goal.returns-clause-value
+returns-clause-value c = max_weight_is _
