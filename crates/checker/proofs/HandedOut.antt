@@ -1,5 +1,6 @@
 -- The hand-out: where nothing is refused, what is handed out is the path of that number in a lowest-price cover and a part of the answer; else it is empty.
 -- "it gives the vertex bytes of that path as a part of the answer, or an empty part where the checker would refuse or 23 holds"
+use Rattle.std.proofs.lemmas.List.{nil_from_length}
 use Rattle.std.proofs.Common.{ℕ, zero, suc, ◌+◌, ◌-◌, ◌≤◌, ◌<◌, arith, ◌≡◌, refl, sym, ap, subst, ◌∙◌, List, [], Bool, true, false, cond, ltb, eqb, ltb→lt, length, get_or, take, drop, length-drop, length-take-le, eqb-true, eq-eqb, ne_eqb}
 use Rattle.mathematics.specs.Cover.{Weighted}
 use Rattle.forms.specs.AnswerForm.{path_count, first_path_at, path_vertices_at, path_weight, path_length, path_vertices, path_end, path_of, paths_from, cover_of}
@@ -60,6 +61,10 @@ module _ {s t : List ℕ} {k number place offset count : ℕ} (f : PartFound s t
   found_bytes =
       let long : offset + count - offset ≡ count = omega arith in
       rw (long, f.begins, f.long) (sym (handed_out_is_part s t k).is_part)
+
+  -- and where no byte is found, any part that has none holds the bytes handed out, wherever it begins
+  pub found_nothing : count ≡ 0 → (l : List ℕ) → length l ≡ 0 → l ≡ handed_out s t k
+  found_nothing none l e = nil_from_length l e ∙ sym (nil_from_length (handed_out s t k) (sym f.long ∙ none))
 
 -- the vertex bytes of path k of the answer, whose paths are a lowest-price cover of the graph, as a part of the answer
 pub handed_out_is_path_k : (s t : List ℕ) (k : ℕ) → (hand_out_verdict s t k).number ≡ 0 → HandsOut s t k

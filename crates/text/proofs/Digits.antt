@@ -1,5 +1,5 @@
 -- The digits of a number, found from the last to the first: what the loop that stores them keeps from turn to turn.
-use Rattle.std.proofs.Common.{ℕ, zero, suc, ◌+◌, ◌-◌, ◌*◌, ◌/◌, ◌%◌, ◌^◌, ◌≤◌, ◌<◌, ◌≡◌, refl, sym, ap, ap₂, ◌∙◌, Bool, true, false, cond, ltb, List, [], ◌∷◌, ◌++◌, length, take, drop, set, take-append-drop, length-append, drop-cons, drop-set-lt, get_or-set_same, lt-length-set, le_refl, pow-suc, arith, ltb-true}
+use Rattle.std.proofs.Common.{ℕ, zero, suc, ◌+◌, ◌-◌, ◌*◌, ◌/◌, ◌%◌, ◌^◌, ◌≤◌, ◌<◌, ◌≡◌, refl, sym, ap, ap₂, ◌∙◌, Bool, true, false, cond, ltb, List, [], ◌∷◌, ◌++◌, length, take, drop, set, take-append-drop, drop-cons, drop-set-lt, get_or-set_same, lt-length-set, le_refl, pow-suc, arith, ltb-true}
 use Rattle.std.proofs.lemmas.List.{take-set-le}
 use Rattle.text.specs.Text.{digit, digits_before, decimal, TextFits, Puts}
 use Rattle.text.proofs.Storing.{set_whole}
@@ -27,22 +27,19 @@ one_digit_less (suc j) n l h =
     let less : n / 10 < 10 ^ j = omega arith in
     rw e (some_digit j (n / 10) (omega arith) less, less)
 
-both_followed : (b : Bool) (x y x' y' after : List ℕ) → x ≡ x' ++ after → y ≡ y' ++ after → cond b x y ≡ cond b x' y' ++ after
-both_followed true x y x' y' after p q = p
-both_followed false x y x' y' after p q = q
+both_longer : (b : Bool) (x y x' y' : List ℕ) (more : ℕ) → length x ≡ length x' + more → length y ≡ length y' + more → length (cond b x y) ≡ length (cond b x' y') + more
+both_longer true x y x' y' more p q = p
+both_longer false x y x' y' more p q = q
 
--- what stands behind a number's digits follows them
-digits_followed : (places n : ℕ) (more after : List ℕ) → digits_before places n (more ++ after) ≡ digits_before places n more ++ after
-unfolding digits_before
-digits_followed zero n more after = refl
-digits_followed (suc places) n more after =
-    let d = digit (n % 10) in
-    both_followed (ltb n 10) (digit n ∷ (more ++ after)) (digits_before places (n / 10) (d ∷ (more ++ after))) (digit n ∷ more) (digits_before places (n / 10) (d ∷ more)) after
-    refl (digits_followed places (n / 10) (d ∷ more) after)
-
--- and adds its own length
+-- what stands behind a number's digits adds its own length. The last fact is for the turned definition: this law holds of it too, so that it is refused at `digits_turn`
 pub digits_before_lem : (places n : ℕ) (after : List ℕ) → length (digits_before places n after) ≡ length (digits_before places n []) + length after
-digits_before_lem places n after = ap length (digits_followed places n [] after) ∙ length-append (digits_before places n []) after
+unfolding digits_before
+digits_before_lem zero n after = omega arith
+digits_before_lem (suc places) n after =
+    let d = digit (n % 10) in
+    both_longer (ltb n 10) (digit n ∷ after) _ (digit n ∷ []) _ (length after)
+    (omega arith)
+    (omega (arith, digits_before_lem places (n / 10) (d ∷ after), digits_before_lem places (n / 10) (d ∷ []), digits_before_lem places (n / 10) after))
 
 -- so many digits of a number, found from the last to the first, in front of what follows
 pub last_digits : ℕ → ℕ → List ℕ → List ℕ
@@ -64,6 +61,19 @@ digits_turn (suc places) n after =
     turned (ltb n 10) n (digit n ∷ after) (digits_before places (n / 10) (d ∷ after)) (digit n ∷ []) (digits_before places (n / 10) (d ∷ [])) after
     (λ e. ap (λ k. k ∷ after) (omega (arith, ltb-true n 10 e)))
     (λ e. digits_turn places (n / 10) (d ∷ after) ∙ ap (λ k. last_digits k n after) (sym long))
+
+both_followed : (b : Bool) (x y x' y' after : List ℕ) → x ≡ x' ++ after → y ≡ y' ++ after → cond b x y ≡ cond b x' y' ++ after
+both_followed true x y x' y' after p q = p
+both_followed false x y x' y' after p q = q
+
+-- what stands behind a number's digits follows them
+digits_followed : (places n : ℕ) (more after : List ℕ) → digits_before places n (more ++ after) ≡ digits_before places n more ++ after
+unfolding digits_before
+digits_followed zero n more after = refl
+digits_followed (suc places) n more after =
+    let d = digit (n % 10) in
+    both_followed (ltb n 10) (digit n ∷ (more ++ after)) (digits_before places (n / 10) (d ∷ (more ++ after))) (digit n ∷ more) (digits_before places (n / 10) (d ∷ more)) after
+    refl (digits_followed places (n / 10) (d ∷ more) after)
 
 -- the places before `place` are as they were, and behind its last ones, which are stored, the digits of `rest` make the text with them
 pub record DigitsLeft (before : List ℕ) (at end n place rest : ℕ) (out : List ℕ) : Type 0 where

@@ -1,6 +1,6 @@
 -- `checker::check::hand_out` gives the part that `find_path` finds: in the answer's own memory, so many bytes behind its first.
 use Rattle.std.proofs.Common.{refl, arith}
-use Rattle.checker.proofs.HandedOut.{found_within, found_bytes}
+use Rattle.checker.proofs.HandedOut.{found_within, found_bytes, found_nothing}
 use Rattle.checker.proofs.check.hand_out.Goals as goal
 
 pub overflow_add-result : goal.overflow_add-result
@@ -21,6 +21,6 @@ pub returns-in-Err : goal.returns-in-Err
 returns-in-Err c =
     let f = c.in-Err.ensures in
     record {
-      bytes = found_bytes f;
+      bytes = found_nothing f refl _ (omega arith);
       place = (refl, omega (arith, f.begins));
     }
