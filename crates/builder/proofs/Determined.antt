@@ -6,6 +6,7 @@ use mathlib.Core.List.{List}
 use mathlib.Core.Logic.{◌⊎◌, inl, inr, ◌≢◌}
 use lib.IntN.{nat_abs}
 use lib.ListN.{length, take}
+use Rattle.std.specs.Prelude.{Result}
 use Rattle.mathematics.specs.Price.{whole}
 use Rattle.mathematics.proofs.PriceKinds.{whole_ordered}
 use Rattle.mathematics.proofs.Lowest.{lowest_prices_equal}
@@ -15,7 +16,10 @@ use Rattle.forms.specs.GraphFaults.{graph_verdict}
 use Rattle.forms.specs.AnswerForm.{cover_of}
 use Rattle.forms.proofs.GraphFacts.{graph_well_formed}
 use Rattle.checker.proofs.GraphReads.{number_zero_iff_reads, number_to_seven}
-use Rattle.builder.specs.Build.{Built, BuildPromise}
+use Rattle.forms.specs.declared.refusals.Refused.{Refused}
+use Rattle.forms.specs.Refusals.{verdict_of}
+use Rattle.forms.proofs.ResultLaws.{same_result}
+use Rattle.builder.specs.Build.{Built, BuildPromise, built_of}
 use Rattle.builder.specs.Results.{Alike}
 use Rattle.network.proofs.NetworkLaws.{same_or_not}
 use Rattle.builder.proofs.Coverable.{cover_number, cover_place_zero}
@@ -46,6 +50,11 @@ built_twice s before after after' r r' P Q =
 
     number : r.number ≡ r'.number
     number = ap (λ (v : Verdict). v.number) same
+
+-- Two answers of the call that are refusals are one answer.
+pub refused_once : (s before after after' : List ℕ) (r r' : Result ℕ Refused) → BuildPromise s before after (built_of r) → BuildPromise s before after' (built_of r') → (verdict_of r).number ≢ 0 → r ≡ r'
+refused_once s before after after' r r' P Q n =
+    same_result r r' (P.verdict ∙ sym Q.verdict) (λ a a' p q. absurd (n (ap (λ (x : Result ℕ Refused). (verdict_of x).number) p)))
 
 module _ (s before after : List ℕ) (r : Built) (P : BuildPromise s before after r) where
   -- The numbers that `build` can give are 0 and 1 to 9: those of the reader, 8 and 9.

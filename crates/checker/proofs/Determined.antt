@@ -22,7 +22,7 @@ use Rattle.std.specs.Prelude.{Result}
 use Rattle.checker.specs.declared.check.PathPart.{PathPart}
 use Rattle.forms.specs.declared.refusals.Refused.{Refused}
 use Rattle.forms.specs.Refusals.{verdict_of}
-use Rattle.checker.proofs.Refusals.{same_result, same_verdict}
+use Rattle.forms.proofs.ResultLaws.{same_result, same_verdict}
 use Rattle.checker.proofs.GraphReads.{number_to_seven}
 use Rattle.checker.proofs.Accepted.{number_zero_accepted, accepted_nothing_refused}
 use Rattle.checker.proofs.HandedOut.{number_zero_handed_out}

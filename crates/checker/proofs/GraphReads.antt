@@ -7,7 +7,7 @@ use Rattle.std.specs.Prelude.{Result}
 use Rattle.forms.specs.declared.Verdict.{Verdict}
 use Rattle.forms.specs.declared.refusals.Refused.{Refused}
 use Rattle.forms.specs.Refusals.{verdict_of}
-use Rattle.checker.proofs.Refusals.{same_verdict}
+use Rattle.forms.proofs.ResultLaws.{same_verdict}
 use Rattle.forms.specs.GraphFaults.{refusal, nothing_refused, then, header_verdict, first_fault, vertex_fault, ascends, arc_fault, vertices_verdict, arcs_verdict, walks, read_fault, reads_verdict, graph_verdict}
 use Rattle.forms.specs.GraphForm.{header_length, length_word, vertex_count_at, vertex_count, arc_count_at, arc_count, read_count_at, read_count, opening_price_at, opening_price, vertex_at, flags, vertex_demand, arc_length, arc_at, arc_tail, arc_head, arc_cost, arc_demand, first_read_at, read_length, read_vertices_at, read_vertices, read_end}
 use Rattle.forms.specs.GraphOf.{arcs_of}

@@ -1,5 +1,4 @@
 -- The laws that the proofs of the code cite, one for each way through a function, and the theorems on forms that read.
-pub mod Refusals
 pub mod RecordLaws
 pub mod ReadLaws
 pub mod WalkAlong

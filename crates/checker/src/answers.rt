@@ -162,14 +162,14 @@ pub fn read_paths(
     first: &[u16; Graph::ROOM_VERTICES + 1],
     roles: &[Role; Graph::ROOM_VERTICES],
     t: &[u8],
+    paths: usize,
     tallies: &mut Tallies,
 ) -> Result<(), Refused>
-    requires reads { Reads s.now × ArcTable s.now first.now × Roles s.now roles.now × (first_path_at s.now ≤ length t.now) }
+    requires reads { Reads s.now × ArcTable s.now first.now × Roles s.now roles.now × (first_path_at s.now ≤ length t.now) × (paths ≡ path_count t.now) }
     requires nothing_tallied { NothingTallied tallies.old.vertex_totals tallies.old.arc_totals tallies.old.met × (tallies.old.copies ≡ 0) × (tallies.old.price ≡ 0) }
     ensures { PathsRead s.now t.now tallies.new.vertex_totals tallies.new.arc_totals tallies.new.met (verdict_of result).number (verdict_of result).place tallies.new.price }
 {
     let opening = opening_price(s);
-    let paths = path_count(t);
     let mut at = first_path_at(s);
     let mut before = &t[..0];
     for _ in 0..paths {

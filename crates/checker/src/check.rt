@@ -58,7 +58,7 @@ fn paths_verdict(s: &[u8], t: &[u8]) -> Result<(), Refused>
     let first = first_arcs(s);
     let roles = roles(s);
     let mut tallies = Tallies::none();
-    read_paths(s, &first, &roles, t, &mut tallies)?;
+    read_paths(s, &first, &roles, t, answer.paths, &mut tallies)?;
     certificate_verdict(s, &first, &roles, t, &tallies, answer.price)
 }
 

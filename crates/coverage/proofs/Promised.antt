@@ -5,9 +5,12 @@ use native.Mathlib.Decide.{dec_le}
 use Rattle.forms.specs.declared.Verdict.{Verdict}
 use Rattle.forms.specs.Limits.{max_demand}
 use Rattle.forms.specs.GraphFaults.{refusal, nothing_refused, first_fault}
+use Rattle.forms.specs.declared.refusals.Refused.{Refused}
 use Rattle.forms.proofs.RightLaws.{all_right}
+use Rattle.forms.proofs.ResultLaws.{same_count}
+use Rattle.std.specs.Prelude.{Result}
 use Rattle.coverage.specs.Limits.{min_length, max_length}
-use Rattle.coverage.specs.Demands.{one_length, exon_fault, fault_of, counts_verdict, quotients, demands_written, entries_written, Filled, DemandsPromise, CountsRight}
+use Rattle.coverage.specs.Demands.{one_length, exon_fault, fault_of, counts_verdict, quotients, demands_written, entries_written, Filled, filled_of, DemandsPromise, CountsRight}
 use Rattle.coverage.proofs.DemandLaws.{counts_right, right_exon, quotients_length, quotients_at, same_lengths, exons_right, lists_refused, lists_right}
 
 module _ (bases lengths before : List ℕ) where
@@ -158,11 +161,17 @@ module _ (bases lengths before : List ℕ) where
         let wrong : ((counts_verdict bases lengths before).number ≡ 0 → ⊥) = λ z. w (number_is ∙ z) in
         (promise.entries ∙ simp (ne_eqb _ _ wrong), promise.demands ∙ simp (ne_eqb _ _ wrong))
 
--- "Show that any two results allowed by a promise are equal."
-pub determined : (bases lengths before after after' : List ℕ) (r r' : Filled) → DemandsPromise bases lengths before after r → DemandsPromise bases lengths before after' r' → (r ≡ r') × (after ≡ after')
-determined bases lengths before after after' r r' p q =
+-- "Show that any two results allowed by a promise are equal.": by number, place and count, as a caller in C sees them
+pub filled_determined : (bases lengths before after after' : List ℕ) (r r' : Filled) → DemandsPromise bases lengths before after r → DemandsPromise bases lengths before after' r' → (r ≡ r') × (after ≡ after')
+filled_determined bases lengths before after after' r r' p q =
     let v = p.verdict ∙ sym q.verdict in (
       ap (λ (w : Verdict). record { number = w.number; place = w.place; written = r.written }) v
           ∙ ap (λ (n : ℕ). record { number = r'.number; place = r'.place; written = n }) (p.entries ∙ sym q.entries),
       p.demands ∙ sym q.demands,
     )
+
+-- and by what the call answers
+pub determined : (bases lengths before after after' : List ℕ) (r r' : Result ℕ Refused) → DemandsPromise bases lengths before after (filled_of r) → DemandsPromise bases lengths before after' (filled_of r') →
+    (r ≡ r') × (after ≡ after')
+determined bases lengths before after after' r r' p q =
+    (same_count r r' (p.verdict ∙ sym q.verdict) (p.entries ∙ sym q.entries), p.demands ∙ sym q.demands)

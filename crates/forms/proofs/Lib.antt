@@ -3,6 +3,7 @@ pub mod LayoutLaws
 pub mod Filling
 pub mod Scan
 pub mod ThenLaws
+pub mod ResultLaws
 pub mod PartLaws
 pub mod MarkLaws
 pub mod ArcLaws

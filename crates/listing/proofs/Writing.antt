@@ -1,12 +1,13 @@
 -- What a call that lists has promised: the text at the front of the lent output, every byte behind it kept, how many bytes were written, and 29 where the output
 -- is shorter than the text.
-use Rattle.std.proofs.Common.{ℕ, ◌≤◌, ◌<◌, ◌≡◌, sym, ap, ap₂, ◌∙◌, List, length, Result, Ok, Err, arith, lt-ltb, le-ltb, le-leb, eq-eqb, ne_eqb}
+use Rattle.std.proofs.Common.{ℕ, ◌≤◌, ◌<◌, ◌≡◌, refl, sym, ap, ap₂, ◌∙◌, List, length, Result, Ok, Err, arith, lt-ltb, le-ltb, le-leb, eq-eqb, ne_eqb}
 use Rattle.std.specs.Result.{result_unwrap_or}
 use borrow.Author.Tests.{lt-leb}
 use Rattle.forms.specs.declared.refusals.Fault.TheVariants.{ListingShort, GraphLength, AnswerLength}
 use Rattle.forms.specs.declared.refusals.Refused.{Refused}
-use Rattle.forms.specs.Refusals.{number_of}
+use Rattle.forms.specs.Refusals.{number_of, verdict_of, value_of}
 use Rattle.forms.proofs.ThenLaws.{number_positive}
+use Rattle.forms.proofs.ResultLaws.{same_count}
 use Rattle.forms.specs.declared.Verdict.{Verdict}
 use Rattle.forms.specs.GraphFaults.{refusal, nothing_refused, graph_verdict}
 use Rattle.checker.specs.Check.{check_verdict}
@@ -38,8 +39,22 @@ unfolding listed_verdict fitted
 listed_whole {before} {text} h l = (simp (le-ltb _ _ h) at l.verdict, simp (le-ltb _ _ h) at l.writes)
 
 -- any two results that the promise allows are equal
-pub lists_once : {before text a b : List ℕ} {q r : Listed} → Lists before text a q → Lists before text b r → (a ≡ b) × (q ≡ r)
+pub lists_once : {before text a b : List ℕ} {q r : Result ℕ Refused} → Lists before text a (listed_of q) → Lists before text b (listed_of r) → (a ≡ b) × (q ≡ r)
 lists_once {q = q} {r = r} x y =
+    let w = writes_once x.writes y.writes in
+    (w.0, same_count q r (sym (listed_verdict_of q) ∙ x.verdict ∙ sym y.verdict ∙ listed_verdict_of r) (sym (listed_value_of q) ∙ w.1 ∙ listed_value_of r))
+  where
+    listed_verdict_of : (r : Result ℕ Refused) → refusal (listed_of r).number (listed_of r).place ≡ verdict_of r
+    listed_verdict_of (Ok n) = refl
+    listed_verdict_of (Err e) = refl
+
+    listed_value_of : (r : Result ℕ Refused) → (listed_of r).written ≡ value_of r
+    listed_value_of (Ok n) = refl
+    listed_value_of (Err e) = refl
+
+-- and by number, place and count, as `Lists` tells them
+pub listed_once : {before text a b : List ℕ} {q r : Listed} → Lists before text a q → Lists before text b r → (a ≡ b) × (q ≡ r)
+listed_once {q = q} {r = r} x y =
     let v = x.verdict ∙ sym y.verdict in
     let w = writes_once x.writes y.writes in (
       w.0,

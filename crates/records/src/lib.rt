@@ -2,6 +2,9 @@
 // can say what is read, so none says more than what a caller needs to go on.
 #![tactic(auto)]
 
+ghost use Rattle.std.specs.Prelude.{◌≡◌, ◌≤◌, length, IfSome};
+ghost use Rattle.forms.specs.Refusals.{verdict_of};
+
 use forms::{Refused, Verdict};
 
 // The next N bytes, where there are so many.
@@ -25,7 +28,9 @@ pub fn read_eight() -> Option<u64> {
 
 // Reads a byte string to the front of `buf`, its length in four bytes before it, and hands it out. There is none where the input ends
 // before its end, and none where `buf` is too short.
-pub fn read_string(buf: &mut [u8]) -> Option<&[u8]> {
+pub fn read_string(buf: &mut [u8]) -> Option<&[u8]>
+    ensures { IfSome result (λ string. length string.now ≤ length buf.old) }
+{
     let length = read_four()? as usize;
     if length > buf.len() {
         return None;
@@ -50,7 +55,9 @@ pub fn run_all<F: FnMut() -> Option<()>>(mut run: F)
 }
 
 // Number and place of what a call answers; both are 0 where nothing is refused.
-pub fn verdict<T>(answer: &Result<T, Refused>) -> Verdict {
+pub fn verdict<T>(answer: &Result<T, Refused>) -> Verdict
+    ensures { result ≡ verdict_of answer.now }
+{
     match answer {
         Ok(_) => Verdict::new(0, 0),
         Err(refused) => Verdict::from(*refused),

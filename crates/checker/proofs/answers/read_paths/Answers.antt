@@ -1,15 +1,11 @@
 -- `checker::answers::read_paths` reads one record after another: what is tallied and what the records left add is what all give.
 use Rattle.std.proofs.Common.{refl, sym, arith, rules}
 use Rattle.forms.proofs.ThenLaws.{number_positive}
-use Rattle.checker.proofs.AnswerLaws.{count_stands}
 use Rattle.checker.proofs.AnswerPaths.{paths_begin, paths_room, paths_stop, paths_remain, paths_end, paths_turn, price_low, head_low}
 use Rattle.checker.proofs.answers.read_paths.Goals as goal
 
-pub path_count-paths-requires : goal.path_count-paths-requires
-path_count-paths-requires c = count_stands c.args.s.now _ c.requires.reads.3
-
 pub loop-init : goal.loop-init
-loop-init c = paths_begin c.requires.reads.0 c.requires.reads.3 c.requires.nothing_tallied (omega (arith, c.path_count-paths.ensures.value)) c.first_path_at-at.ensures.value
+loop-init c = paths_begin c.requires.reads.0 c.requires.reads.3 c.requires.nothing_tallied (omega (arith, c.requires.reads.4)) c.first_path_at-at.ensures.value
 
 pub read_path-requires : goal.read_path-requires
 read_path-requires c =

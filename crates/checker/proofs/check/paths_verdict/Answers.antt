@@ -13,7 +13,7 @@ of-answer-requires c = header_inside _ _ c.requires.1.long
 pub read_paths-requires : goal.read_paths-requires
 read_paths-requires c =
     record {
-      reads = (c.requires.0, c.first_arcs-first.ensures, c.roles-roles.ensures, c.requires.1.long);
+      reads = (c.requires.0, c.first_arcs-first.ensures, c.roles-roles.ensures, c.requires.1.long, ap (λ (a : Answer). a.paths) c.of-answer.ensures);
       nothing_tallied = c.none-tallies.ensures;
     }
 

@@ -5,7 +5,7 @@ use Rattle.forms.specs.declared.Verdict.{Verdict}
 use Rattle.forms.specs.declared.refusals.Fault.{Fault}
 use Rattle.forms.specs.declared.refusals.Fault.TheVariants.{GraphLength, GraphVersion, GraphCount, GraphNumber, GraphEnd, Arc, Read, OnNoPath, OutputShort, AnswerLength, AnswerVersion, PathCount, Mark, AnswerEnd, Path, Weight, Order, Unmet, Price, Slack, Bound, NoSuchPath, ListingShort, ListLengths, ExonLength, ExonDemand}
 use Rattle.forms.specs.declared.refusals.Refused.{Refused}
-use Rattle.forms.specs.Refusals.{number_of, verdict_of}
+use Rattle.forms.specs.Refusals.{number_of, verdict_of, value_of}
 use Rattle.forms.proofs.ThenLaws.{number_positive}
 
 -- the reason that has a number
@@ -79,3 +79,7 @@ same_result (Err d) (Err d') e same = ap Err (same_refusal d d' (ap (λ (v : Ver
 
 pub same_verdict : (r r' : Result (Unit {0}) Refused) → verdict_of r ≡ verdict_of r' → r ≡ r'
 same_verdict r r' e = same_result r r' e (λ a a' p q. refl)
+
+-- two that tell one verdict and one count
+pub same_count : (r r' : Result ℕ Refused) → verdict_of r ≡ verdict_of r' → value_of r ≡ value_of r' → r ≡ r'
+same_count r r' e counts = same_result r r' e (λ a a' p q. sym (ap value_of p) ∙ counts ∙ ap value_of q)
