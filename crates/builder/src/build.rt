@@ -1,5 +1,5 @@
 // The builder's call, and the stages that it goes through. Each stage lends the arrays that it fills; none is copied.
-ghost use Rattle.std.specs.Prelude.{◌≡◌, cond, ltb, ℕ, ◌+◌, ◌*◌, ◌<◌, ◌≤◌, length};
+ghost use Rattle.std.specs.Prelude.{◌≡◌, cond, ltb, ℕ, ◌+◌, ◌*◌, ◌<◌, ◌≤◌, length, replicate};
 ghost use Rattle.mathematics.specs.Exists.{Coverable};
 ghost use Rattle.mathematics.specs.Reach.{useful};
 ghost use Rattle.forms.specs.GraphForm.{vertex_count};
@@ -10,7 +10,7 @@ ghost use Rattle.forms.specs.BuildFaults.{room_asked};
 ghost use Rattle.forms.specs.Refusals.{verdict_of};
 ghost use Rattle.reads.specs.ReadTable.{Leaves, TableSized};
 ghost use Rattle.certify.specs.Certify.{CountsLow};
-ghost use Rattle.network.specs.Network.{nth, most_edges, most_moved};
+ghost use Rattle.network.specs.Network.{nth, most_nodes, most_edges, most_moved};
 ghost use Rattle.paths.specs.Slots.{prepared_of, plain_slots};
 ghost use Rattle.reach.specs.Reached.{Reachable, Tells, lie_verdict};
 ghost use Rattle.paths.specs.Peel.{PathTable, Peeled, collected};
@@ -29,12 +29,12 @@ use forms::fields::vertex_count;
 use forms::layout::longest_answer;
 use forms::roles::{Role, roles};
 use forms::{Fault, Graph, Refused};
-use network::{BASE, Balance, EDGES, Flow, NODES, Network, carry_all, chain};
+use network::{BASE, Balance, Chains, EDGES, Flow, NODES, Network, carry_all, chain};
 use paths::{Paths, peel_all};
 use reach::{Reach, first_lacking, table_of};
 use reads::{ROW, ROWS, prepare_reads};
 use wiring::{lay_balance, lay_edges, lay_live, lay_loads};
-use writing::write_answer;
+use writing::{Marks, write_answer};
 
 // How many of the prepared reads pass each vertex and each arc.
 #[derive(Drop)]
@@ -88,18 +88,18 @@ fn lay_network(
     network: &mut Network,
     full: &mut [u64; EDGES],
     live: &mut [bool; NODES],
-) -> Balance
+    balance: &mut Balance,
+)
     requires layable { Layable s.now kept.now × Roles s.now roles.now }
     requires reads_ready { ReadsReady s.now rows.now lens.now count passed.now.vertices passed.now.arcs }
-    ensures laid { NetworkLaid s.now network.new.from network.new.to network.new.cost full.new live.new result.surplus result.deficit }
+    requires nothing_moves { (balance.old.surplus ≡ replicate most_nodes 0) × (balance.old.deficit ≡ replicate most_nodes 0) }
+    ensures laid { NetworkLaid s.now network.new.from network.new.to network.new.cost full.new live.new balance.new.surplus balance.new.deficit }
     ensures in_use { (network.new.nodes ≡ 2 * vertex_count s.now + 1) × (network.new.edges ≡ plain_slots s.now) }
 {
     lay_edges(s, roles, kept, rows, lens, count, network);
     lay_loads(s, &passed.vertices, &passed.arcs, count, full);
     lay_live(s, kept, live);
-    let mut balance = Balance::empty();
-    lay_balance(network, network.edges + count, full, &mut balance);
-    balance
+    lay_balance(network, network.edges + count, full, balance);
 }
 
 // Adds what the flow carries on edge e to its first load. A loop stands for a link that is not in use: what may lie on it goes nowhere, and is dropped.
@@ -143,7 +143,8 @@ fn take_paths(
     let n = vertex_count(s);
     let plain = network.edges;
     network.edges = plain + count;
-    let chains = chain(network.nodes, network.edges, &network.from);
+    let mut chains = Chains::empty();
+    chain(network.nodes, network.edges, &network.from, &mut chains);
     peel_all(s, n, plain, network, &chains, rows, lens, full, paths);
 }
 
@@ -168,8 +169,19 @@ fn find_flow(
     ensures in_use { (network.new.nodes ≡ 2 * vertex_count s.now + 1) × (network.new.edges ≡ plain_slots s.now) }
 {
     let mut live = [false; NODES];
-    let mut balance = lay_network(
-        s, roles, kept, rows, lens, count, passed, network, full, &mut live,
+    let mut balance = Balance::empty();
+    lay_network(
+        s,
+        roles,
+        kept,
+        rows,
+        lens,
+        count,
+        passed,
+        network,
+        full,
+        &mut live,
+        &mut balance,
     );
     carry_all(network, fuel, &live, flow, &mut balance);
     add_loads(network, &mut flow.load, full);
@@ -215,7 +227,8 @@ fn answer(
         &mut flow,
         &mut full,
     );
-    let marks = final_marks(s, reach, &flow.mark);
+    let mut marks = Marks::empty();
+    final_marks(s, reach, &flow.mark, &mut marks);
     let price = final_price(s, &full, &passed.arcs);
     let mut paths = Paths::empty();
     take_paths(s, &mut network, &rows, &lens, count, &mut full, &mut paths);

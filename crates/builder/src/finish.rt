@@ -27,16 +27,14 @@ fn side_mark(reached: bool, reaching: bool, own: u64) -> u64
 }
 
 // The final marks of all vertices.
-pub fn final_marks(s: &[u8], reach: &Reach, mark: &[u64; NODES]) -> Marks
+pub fn final_marks(s: &[u8], reach: &Reach, mark: &[u64; NODES], marks: &mut Marks)
     requires { Reachable s.now reach.now }
-    ensures { MarksHeld s.now mark.now result.into result.outof }
+    ensures { MarksHeld s.now mark.now marks.new.into marks.new.outof }
 {
-    let mut marks = Marks::empty();
     for v in 0..vertex_count(s) {
         marks.into[v] = side_mark(reach.reached[v], reach.reaching[v], mark[2 * v + 1]);
         marks.outof[v] = side_mark(reach.reached[v], reach.reaching[v], mark[2 * v + 2]);
     }
-    marks
 }
 
 // How many copies the loads on the openings open.

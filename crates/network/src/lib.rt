@@ -30,17 +30,17 @@ pub const BASE: u64 = 2_000_000_000;
 pub const SPAN: u64 = 1_000_000_000 + 63 * 1_000_000;
 
 // The edges of each node as a chain, so that a search looks only at the edges of the nodes that it settles.
-pub fn chain(nodes: usize, edges: usize, key: &[usize; EDGES]) -> Chains
+// The chains are lent: handed out by value they are copied twice, and stand three times on the stack.
+pub fn chain(nodes: usize, edges: usize, key: &[usize; EDGES], chains: &mut Chains)
     requires { Keys nodes edges key.now }
-    ensures { Chained nodes edges key.now result.head result.next }
+    ensures { Chained nodes edges key.now chains.new.head chains.new.next }
 {
-    let mut chains = Chains::empty();
+    chains.head.fill(0);
     for e in 0..edges {
         let u = key[e];
         chains.next[e] = chains.head[u];
         chains.head[u] = e + 1;
     }
-    chains
 }
 
 // A node that is not reached yet is this far away: further than any way.
@@ -395,11 +395,13 @@ pub fn carry_all(
     ensures by_index { (given wanted : ℕ → ℕ) → ((u : ℕ) → u < network.now.nodes → nth balance.old.surplus u + wanted u ≡ nth balance.old.deficit u + given u) → Carried network.now.nodes network.now.edges live.now network.now.from network.now.to network.now.cost flow.new.load flow.new.mark given wanted (sum_to network.now.nodes (λ u. nth balance.old.surplus u)) }
     ensures load_len { (length flow.new.load ≡ most_edges) × (length flow.new.mark ≡ most_nodes) }
 {
-    let out = chain(network.nodes, network.edges, &network.from);
+    let mut out = Chains::empty();
+    chain(network.nodes, network.edges, &network.from, &mut out);
     if guess_stands(network, fuel, &out, balance, flow) {
         return;
     }
     set_back(network, flow);
-    let back = chain(network.nodes, network.edges, &network.to);
+    let mut back = Chains::empty();
+    chain(network.nodes, network.edges, &network.to, &mut back);
     carry_slowly(network, live, &out, &back, flow, balance);
 }

@@ -70,7 +70,7 @@ pub fn best_entry(
     block: usize,
     start: usize,
 ) -> Option<Entry> {
-    let edges = network.edges;
+    let edges = network.edges.min(EDGES);
     let mut first = again(start, edges);
     let mut left = edges;
     // Kept: what may not change needs it: the wrong program `search_without_end` turns `rest`, whose promise only the measure of this loop asks for.

@@ -133,8 +133,10 @@ pub fn guess(
 ) -> bool
     ensures { PerEdge flow.new.load × PerNode flow.new.mark }
 {
-    let from_root = Ways::from_root(network, chains);
-    let to_root = Ways::to_root(network, chains);
+    let mut from_root = Ways::unknown();
+    from_root.go_from_root(network, chains);
+    let mut to_root = Ways::unknown();
+    to_root.go_to_root(network, chains);
     let mut tree = Tree::new();
     let best = best_tree(
         network,

@@ -24,8 +24,6 @@ pub struct Tree {
 impl Tree {
     // Each node is on the root, by its shortcut, and in no list yet.
     pub fn new() -> Tree {
-        let mut depth = [1; NODES];
-        depth[0] = 0;
         Tree {
             parent: [0; NODES],
             by: [EDGES as u16; NODES],
@@ -34,7 +32,7 @@ impl Tree {
             child: [0; NODES],
             after: [0; NODES],
             before: [0; NODES],
-            depth,
+            depth: [1; NODES],
         }
     }
 
@@ -78,22 +76,22 @@ impl Tree {
         to_root: &Ways,
         mark: &mut [u64; NODES],
     ) {
+        self.depth[0] = 0;
         for u in (1..nodes.min(NODES)).rev() {
             self.hang(u, balance, from_root, to_root, mark);
             self.link(u, 0);
         }
     }
 
-    // Puts w first into the list of the nodes that hang on p.
+    // Puts w first into the list of the nodes that hang on p. Where no node follows, `before` is stored at place 0, which nothing reads: the root is in no
+    // list. To ask first costs more.
     pub fn link(&mut self, w: usize, p: usize)
         requires { (w < most_nodes) × (p < most_nodes) }
     {
         let second = self.child[p];
         self.after[w] = second;
         self.before[w] = 0;
-        if let Some(next) = hung(second) {
-            self.before[next] = w as u16;
-        }
+        self.before[node(usize::from(second))] = w as u16;
         self.child[p] = w as u16;
     }
 
@@ -103,9 +101,7 @@ impl Tree {
     {
         let one = self.before[w];
         let other = self.after[w];
-        if let Some(next) = hung(other) {
-            self.before[next] = one;
-        }
+        self.before[node(usize::from(other))] = one;
         match hung(one) {
             Some(previous) => self.after[previous] = other,
             None => self.child[p] = other,

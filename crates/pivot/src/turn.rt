@@ -85,44 +85,37 @@ impl Waiting {
 }
 
 impl Tree {
-    // The least of the edges that lose, once the edge that u hangs by is one of the way round: it loses where it rises on the side that the entering edge
-    // comes from, and where it falls on the other side (`ahead`). Of equal ones the first is taken on the one side and the last on the other: this keeps
-    // the tree so that every node can send on to the root.
-    fn lost(&self, u: usize, ahead: bool, least: Option<Loss>) -> Option<Loss>
+    // The edge that u hangs by is one of the way round: it loses where it rises on the side that the entering edge comes from, and where it falls on the
+    // other side (`ahead`). Of equal ones the first is taken on the one side and the last on the other: this keeps the tree so that every node can send on
+    // to the root.
+    fn lose(&self, u: usize, ahead: bool, least: &mut Option<Loss>)
         requires { u < most_nodes }
     {
-        if self.up[u] == ahead {
-            return least;
-        }
         let flow = self.flow[u];
-        match least {
-            Some(loss) if loss.flow < flow || (loss.flow == flow && !ahead) => least,
-            _ => Some(Loss {
+        let is_less = match least {
+            Some(loss) => flow < loss.flow || (flow == loss.flow && ahead),
+            None => true,
+        };
+        if is_less && self.up[u] != ahead {
+            *least = Some(Loss {
                 flow,
                 cut: u,
                 ahead,
-            }),
+            });
         }
     }
 
-    // One step on the side that is deeper.
-    fn climb_deeper(&self, climb: Climb) -> Climb
-        requires { (climb.back < most_nodes) × (climb.front < most_nodes) }
-        ensures { (result.back < most_nodes) × (result.front < most_nodes) }
+    // One step on the side that is deeper. The climb is changed where it stands: it is not handed on by value, since that copies the Option at each step.
+    fn climb_deeper(&self, climb: &mut Climb)
+        requires { (climb.old.back < most_nodes) × (climb.old.front < most_nodes) }
+        ensures { (climb.new.back < most_nodes) × (climb.new.front < most_nodes) }
     {
-        let Climb { back, front, least } = climb;
-        if self.depth[back] < self.depth[front] {
-            Climb {
-                back,
-                front: self.above(front),
-                least: self.lost(front, true, least),
-            }
+        if self.depth[climb.back] < self.depth[climb.front] {
+            self.lose(climb.front, true, &mut climb.least);
+            climb.front = self.above(climb.front);
         } else {
-            Climb {
-                back: self.above(back),
-                front,
-                least: self.lost(back, false, least),
-            }
+            self.lose(climb.back, false, &mut climb.least);
+            climb.back = self.above(climb.back);
         }
     }
 
@@ -139,7 +132,7 @@ impl Tree {
             if climb.back == climb.front {
                 return climb;
             }
-            climb = self.climb_deeper(climb);
+            self.climb_deeper(&mut climb);
         }
         climb
     }

@@ -19,12 +19,10 @@ pub struct Ways {
 }
 
 impl Ways {
-    // No way is known but the root's own.
-    fn unknown() -> Ways {
-        let mut cost = [FAR; NODES];
-        cost[0] = 0;
+    // No way is known.
+    pub fn unknown() -> Ways {
         Ways {
-            cost,
+            cost: [FAR; NODES],
             by: [0; NODES],
         }
     }
@@ -39,27 +37,25 @@ impl Ways {
     }
 
     // The cheapest ways from the root: on from each node along the edges that leave it.
-    pub fn from_root(network: &Network, chains: &Chains) -> Ways {
-        let mut ways = Ways::unknown();
+    pub fn go_from_root(&mut self, network: &Network, chains: &Chains) {
+        self.cost[0] = 0;
         for u in 0..network.nodes.min(NODES) {
-            let so_far = ways.cost[u];
+            let so_far = self.cost[u];
             each_edge(network, chains, u, |e, v, cost| {
-                ways.lower(v, so_far.wrapping_add(cost), e)
+                self.lower(v, so_far.wrapping_add(cost), e)
             });
         }
-        ways
     }
 
     // The cheapest ways to the root: from each node by the edges that leave it.
-    pub fn to_root(network: &Network, chains: &Chains) -> Ways {
-        let mut ways = Ways::unknown();
+    pub fn go_to_root(&mut self, network: &Network, chains: &Chains) {
+        self.cost[0] = 0;
         for u in (1..network.nodes.min(NODES)).rev() {
             each_edge(network, chains, u, |e, v, cost| {
-                let rest = ways.cost[node(v)];
-                ways.lower(u, cost.wrapping_add(rest), e)
+                let rest = self.cost[node(v)];
+                self.lower(u, cost.wrapping_add(rest), e)
             });
         }
-        ways
     }
 
     // What waits at u to be carried goes over the edge of its way, and waits at the edge's other end, as `ends` says.

@@ -30,9 +30,9 @@ pub write_answer-requires : goal.write_answer-requires
 write_answer-requires c =
     record {
       s_in_bounds = c.requires.s_in_bounds;
-      writable = writable _ c.requires.reachable.0.reads _ _ _ _ c.find_flow.ensures.flowed _ _ c.final_marks-marks.ensures;
+      writable = writable _ c.requires.reachable.0.reads _ _ _ _ c.find_flow.ensures.flowed _ _ c.final_marks.ensures;
       paths_fit = paths_fit _ c.requires.reachable.0.reads _ _ c.take_paths.ensures.table c.take_paths.ensures.peeled c.find_flow.ensures.flowed.loaded.few;
     }
 
 pub returns : goal.returns
-returns c = answered _ _ _ _ _ _ _ _ _ _ _ _ c.requires.reachable.3 c.find_flow.ensures.flowed c.take_paths.ensures.peeled c.final_marks-marks.ensures c.final_price-price.ensures c.write_answer.ensures.placed c.write_answer.ensures.value
+returns c = answered _ _ _ _ _ _ _ _ _ _ _ _ c.requires.reachable.3 c.find_flow.ensures.flowed c.take_paths.ensures.peeled c.final_marks.ensures c.final_price-price.ensures c.write_answer.ensures.placed c.write_answer.ensures.value

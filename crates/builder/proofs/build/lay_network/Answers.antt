@@ -28,7 +28,7 @@ lay_balance-requires c =
     let Y = c.requires.layable.0 in
     record {
       summable = laid_summable _ _ _ _ c.lay_edges.ensures.in_use.0 c.lay_edges.ensures.in_use.1 (leaves_count _ _ _ _ c.requires.reads_ready.table) Y.reads Y.coverable _ _ _ _ c.lay_edges.ensures.laid c.lay_loads.ensures;
-      tallied = rw (c.empty-balance.ensures.0, c.empty-balance.ensures.1) (tally_none _ _ _ _ _ _ (search rules) (search rules) (λ u l. zeros most_nodes u) (λ u l. zeros most_nodes u));
+      tallied = rw (c.requires.nothing_moves.0, c.requires.nothing_moves.1) (tally_none _ _ _ _ _ _ (search rules) (search rules) (λ u l. zeros most_nodes u) (λ u l. zeros most_nodes u));
     }
 
 pub returns : goal.returns
