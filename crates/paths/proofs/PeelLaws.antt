@@ -8,14 +8,8 @@ use Rattle.mathematics.proofs.Basics.{all_append, all_weaken, all_right, among_l
 use Rattle.mathematics.proofs.Loads.{sum_over, sum_over_append}
 use Rattle.network.specs.Network.{nth, sum_to, share, leaving, entering, Chained, most_nodes, most_edges}
 use Rattle.std.specs.Prelude.{Option, None, Some, IsSome}
-use Rattle.paths.specs.Peel.{worth_to, Circles, plus_one, NextLoaded, Winds, Walked, TakenOff}
+use Rattle.paths.specs.Peel.{worth_to, Circles, plus_one, NextLoaded, Looking, Onward, Winds, Walked, TakenOff}
 use Rattle.network.proofs.NetworkLaws.{same_or_not, below_or_not, sum_change, sum_none, sum_term, share_same, share_other}
-
--- the search down the chain of u has come to h: no edge of u from h on is loaded
-pub record Looking (E : ℕ) (from load : List ℕ) (u h : ℕ) : Type 0 where
-  pub below : h ≤ E
-  pub key : (f : ℕ) → h ≡ f + 1 → nth from f ≡ u
-  pub passed : (e : ℕ) → e < E → nth from e ≡ u → h ≤ e → nth load e ≡ 0
 
 module _ (N E : ℕ) (from head next load : List ℕ) (u : ℕ) (chained : Chained N E from head next) where
   pub look_first : u < N → Looking E from load u (nth head u)
@@ -55,6 +49,25 @@ module _ (N E : ℕ) (from head next load : List ℕ) (u : ℕ) (chained : Chain
   pub look_none : (h : ℕ) → Looking E from load u h → h ≤ 0 → NextLoaded E from load u 0
   look_none h L z =
       record { none = λ q e b k. L.passed e b k (omega arith); some = λ e q. absurd (omega arith) }
+
+-- each search begins at its chain's head
+pub onward_first : (N E : ℕ) (from head next load : List ℕ) → Chained N E from head next → Onward N E from load head
+onward_first N E from head next load chained u b = look_first N E from head next load u chained b
+
+-- a search that has come to h goes on there
+pub onward_at : (N E : ℕ) (from load places : List ℕ) → Onward N E from load places → (u h : ℕ) → u < length places → Looking E from load u h →
+    Onward N E from load (set places u h)
+onward_at N E from load places on u h l L v b = ⊎_elim here (λ n. subst (Looking E from load v) (sym (get_or-set_other places u v h 0 n)) (on v b)) (same_or_not v u)
+  where
+    here : v ≡ u → Looking E from load v (nth (set places u h) v)
+    here q = subst (λ (w : ℕ). Looking E from load w (nth (set places u h) w)) (sym q) (subst (Looking E from load u) (sym (get_or-set_same places u h 0 l)) L)
+
+-- no search has to go back where loads fall
+onward_falls : (N E : ℕ) (from load now places : List ℕ) → Onward N E from load places → ((e : ℕ) → e < E → nth now e ≤ nth load e) →
+    Onward N E from now places
+onward_falls N E from load now places on fall u b =
+    let L = on u b in
+    record { below = L.below; key = L.key; passed = λ e l k h. omega (arith, L.passed e l k h, fall e l) }
 
 -- a sum of which one part is k less
 sum_one_less : (E : ℕ) (f g : ℕ → ℕ) (e k : ℕ) → e < E → f e ≡ g e + k → ((j : ℕ) → j ≢ e → f j ≡ g j) → sum_to E f ≡ sum_to E g + k
@@ -114,6 +127,11 @@ taken_more E load ws a now e t small b h =
 pub taken_at : (E : ℕ) (load ws : List ℕ) (a : ℕ) (now : List ℕ) → TakenOff E load ws a now → (e : ℕ) → e < E →
     nth load e ≡ nth now e + a * sum_over (only e) ws
 taken_at E load ws a now t e b = omega (arith, t.worths (only e), worth_only E load e b, worth_only E now e b)
+
+-- a way that is taken off leaves the searches where they are
+pub onward_taken : (N E : ℕ) (from load ws : List ℕ) (a : ℕ) (now places : List ℕ) → TakenOff E load ws a now → Onward N E from load places →
+    Onward N E from now places
+onward_taken N E from load ws a now places t on = onward_falls N E from load now places on (λ e b. omega (arith, taken_at E load ws a now t e b))
 
 no_tail : (ds : List ℕ) (e : ℕ) (es : List ℕ) → ds ++ (e ∷ es) ≡ [] → ⊥
 no_tail [] e es q = let n : ◌≡◌ {A = ℕ} 0 1 = cc in omega arith

@@ -130,6 +130,16 @@ pub record NextLoaded (E : ℕ) (from load : List ℕ) (u r : ℕ) : Type 0 wher
   pub none : r ≡ 0 → (e : ℕ) → e < E → nth from e ≡ u → nth load e ≡ 0
   pub some : (e : ℕ) → r ≡ e + 1 → (e < E) × (nth from e ≡ u) × (1 ≤ nth load e)
 
+-- the search down the chain of u has come to h: no edge of u from h on is loaded
+pub record Looking (E : ℕ) (from load : List ℕ) (u h : ℕ) : Type 0 where
+  pub below : h ≤ E
+  pub key : (f : ℕ) → h ≡ f + 1 → nth from f ≡ u
+  pub passed : (e : ℕ) → e < E → nth from e ≡ u → h ≤ e → nth load e ≡ 0
+
+-- for each node, where the search down its chain goes on
+abbrev pub Onward : ℕ → ℕ → List ℕ → List ℕ → List ℕ → Type 0
+Onward N E from load places = (u : ℕ) → u < N → Looking E from load u (nth places u)
+
 -- the edges lead from the node u back to the root, and the nodes rise on the way
 abbrev pub Winds : List ℕ → List ℕ → ℕ → List ℕ → Type 0
 Winds from to u [] = ⊥

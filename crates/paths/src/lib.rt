@@ -11,7 +11,7 @@ ghost use Rattle.mathematics.specs.Links.{link_vertices, path_of};
 ghost use Rattle.network.specs.Network.{nth, Chained, most_nodes, most_edges, most_moved};
 ghost use Rattle.forms.specs.GraphForm.{vertex_count};
 ghost use Rattle.paths.specs.Slots.{prepared_of, all_slots, reading_slot, link_at};
-ghost use Rattle.paths.specs.Peel.{path_at, collected, PathTable, ReadsHeld, Written, GoesRound, worth_of, Circles, plus_one, NextLoaded, Walked, TakenOff, Ready, opens_at, PeeledOne, Peeled};
+ghost use Rattle.paths.specs.Peel.{path_at, collected, PathTable, ReadsHeld, Written, GoesRound, worth_of, Circles, plus_one, NextLoaded, Onward, Walked, TakenOff, Ready, opens_at, PeeledOne, Peeled};
 ghost use Rattle.reads.specs.ReadTable.{row_length};
 
 pub use crate::collect::{Path, Paths};
@@ -25,15 +25,25 @@ struct Trip {
     amount: u64,
 }
 
-// The first loaded edge in u's chain, where there is one.
-fn next_loaded(network: &Network, chains: &Chains, load: &[u64; EDGES], u: usize) -> Option<usize>
+// The first loaded edge in u's chain, where there is one. It is looked for from where the search before it ended (`onward`): loads only fall here, so an
+// edge that was passed stays empty.
+fn next_loaded(
+    network: &Network,
+    chains: &Chains,
+    load: &[u64; EDGES],
+    u: usize,
+    onward: &mut [usize; NODES],
+) -> Option<usize>
     requires sizes { (network.now.nodes ≤ most_nodes) × (network.now.edges ≤ most_edges) × (u < network.now.nodes) }
     requires chained { Chained network.now.nodes network.now.edges network.now.from chains.now.head chains.now.next }
-    ensures { NextLoaded network.now.edges network.now.from load.now u (plus_one result) }
+    requires onward { Onward network.now.nodes network.now.edges network.now.from load.now onward.old }
+    ensures next { NextLoaded network.now.edges network.now.from load.now u (plus_one result) }
+    ensures onward_2 { Onward network.now.nodes network.now.edges network.now.from load.now onward.new }
 {
-    let mut h = chains.head[u];
+    let mut h = onward[u];
     while h > 0 {
         if load[h - 1] > 0 {
+            onward[u] = h;
             return Some(h - 1);
         }
         h = chains.next[h - 1];
@@ -47,13 +57,16 @@ fn walk(
     chains: &Chains,
     load: &[u64; EDGES],
     first: usize,
+    onward: &mut [usize; NODES],
     way: &mut [usize; NODES],
 ) -> Trip
     requires sizes { (network.now.nodes ≤ most_nodes) × (network.now.edges ≤ most_edges) }
     requires chained { Chained network.now.nodes network.now.edges network.now.from chains.now.head chains.now.next }
+    requires onward { Onward network.now.nodes network.now.edges network.now.from load.now onward.old }
     requires circles { Circles network.now.nodes network.now.edges network.now.from network.now.to load.now }
     requires begins { NextLoaded network.now.edges network.now.from load.now 0 (first + 1) }
     ensures fits { result.len ≤ most_nodes }
+    ensures onward_2 { Onward network.now.nodes network.now.edges network.now.from load.now onward.new }
     ensures walked { Walked network.now.edges network.now.from network.now.to load.now (take result.len way.new) result.amount }
 {
     way[0] = first;
@@ -61,7 +74,7 @@ fn walk(
     let mut amount = load[first];
     let mut u = network.to[first];
     while u > 0 {
-        let e = next_loaded(network, chains, load, u).unwrap();
+        let e = next_loaded(network, chains, load, u, onward).unwrap();
         way[len] = e;
         len += 1;
         amount = amount.min(load[e]);
@@ -132,7 +145,8 @@ fn path_of(
     r
 }
 
-// Takes one walk off the loads, from the root's edge `first` on, and collects its path.
+// Takes one walk off the loads, from the root's edge `first` on, and collects its path. The way is lent, whatever it holds: made here, it would be filled
+// anew for each walk.
 fn peel_one(
     s: &[u8],
     vertices: usize,
@@ -142,19 +156,22 @@ fn peel_one(
     rows: &[[u8; ROW]; ROWS],
     lens: &[usize; ROWS],
     first: usize,
+    onward: &mut [usize; NODES],
+    way: &mut [usize; NODES],
     load: &mut [u64; EDGES],
     paths: &mut Paths,
 )
     requires ready { Ready s.now vertices plain network.now.nodes network.now.edges network.now.from chains.now.head chains.now.next rows.now lens.now }
     requires goes { GoesRound s.now (2 * vertex_count s.now + 1) network.now.from network.now.to load.old }
+    requires onward { Onward network.now.nodes network.now.edges network.now.from load.old onward.old }
     requires begins { NextLoaded network.now.edges network.now.from load.old 0 (first + 1) }
     requires table { PathTable paths.old }
     requires room { (paths.old.count < most_edges) × ((k : ℕ) → k < paths.old.count → (path_at paths.old k).weight + worth_of s.now load.old (opens_at s.now) ≤ most_moved) }
-    ensures { PeeledOne s.now network.now.from network.now.to load.old load.new paths.old paths.new }
+    ensures peeled { PeeledOne s.now network.now.from network.now.to load.old load.new paths.old paths.new }
+    ensures onward_2 { Onward network.now.nodes network.now.edges network.now.from load.new onward.new }
 {
-    let mut way = [0usize; NODES];
     let mut row = [0u8; ROW];
-    let trip = walk(network, chains, load, first, &mut way);
+    let trip = walk(network, chains, load, first, onward, way);
     let edges = &way[..trip.len];
     let size = path_of(s, vertices, plain, rows, lens, edges, &mut row);
     take_off(network, edges, trip.amount, load);
@@ -181,9 +198,22 @@ pub fn peel_all(
     ensures table { PathTable paths.new }
 {
     paths.count = 0;
-    while let Some(first) = next_loaded(network, chains, load, 0) {
+    let mut onward = chains.head;
+    let mut way = [0; NODES];
+    while let Some(first) = next_loaded(network, chains, load, 0, &mut onward) {
         peel_one(
-            s, vertices, plain, network, chains, rows, lens, first, load, paths,
+            s,
+            vertices,
+            plain,
+            network,
+            chains,
+            rows,
+            lens,
+            first,
+            &mut onward,
+            &mut way,
+            load,
+            paths,
         );
     }
 }
