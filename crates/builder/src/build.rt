@@ -199,6 +199,16 @@ fn answer(
     requires s_in_bounds { longest_answer s.now ≤ length out.old }
     ensures { Answered s.now out.old out.new result }
 {
+    // These tables are made first: a local's room is filled with 0 where its function begins and again where the local is made, unless the one follows
+    // straight on the other. Filled twice, they took an eighth of a gene's time.
+    let mut paths = Paths::empty();
+    let mut marks = Marks::empty();
+    let mut network = Network::empty();
+    let mut flow = Flow {
+        load: [0; EDGES],
+        mark: [BASE; NODES],
+    };
+    let mut full = [0; EDGES];
     let kept = keep_useful(s, reach);
     // Kept: document 01 has the table of reads as a local by value, a row for each read, with its lengths beside.
     let mut rows = [[0; ROW]; ROWS];
@@ -208,12 +218,6 @@ fn answer(
         arcs: [0; Graph::ROOM_ARCS],
     };
     let count = prepare_table(s, &mut rows, &mut lens, &mut passed);
-    let mut network = Network::empty();
-    let mut flow = Flow {
-        load: [0; EDGES],
-        mark: [BASE; NODES],
-    };
-    let mut full = [0; EDGES];
     find_flow(
         s,
         roles,
@@ -227,10 +231,8 @@ fn answer(
         &mut flow,
         &mut full,
     );
-    let mut marks = Marks::empty();
     final_marks(s, reach, &flow.mark, &mut marks);
     let price = final_price(s, &full, &passed.arcs);
-    let mut paths = Paths::empty();
     take_paths(s, &mut network, &rows, &lens, count, &mut full, &mut paths);
     write_answer(s, out, price, &marks, &paths)
 }
