@@ -6,7 +6,7 @@
  *
  * What the caller owes, since no contract can speak of it: each pointer is valid for the length beside it (for length 0 it may be any but
  * null) until the call returns; out overlaps no input; and the stack has room. In bytes, as measured in docs/BENCHMARK.md, the calls take
- * 240 (read_graph_form), 7,176 (check_answer_form), 7,240 (hand_out_path) and 82,520 (build_answer_form).
+ * 240 (read_graph_form), 7,176 (check_answer_form), 7,240 (hand_out_path) and 82,504 (build_answer_form).
  *
  * Calls may run in several threads at once: the library has no memory of its own, each call works on what it is lent. While a call runs,
  * no other thread may change its inputs or touch its out.
