@@ -50,10 +50,6 @@ module _ (N E : ℕ) (from head next load : List ℕ) (u : ℕ) (chained : Chain
   look_none h L z =
       record { none = λ q e b k. L.passed e b k (omega arith); some = λ e q. absurd (omega arith) }
 
--- each search begins at its chain's head
-pub onward_first : (N E : ℕ) (from head next load : List ℕ) → Chained N E from head next → Onward N E from load head
-onward_first N E from head next load chained u b = look_first N E from head next load u chained b
-
 -- a search that has come to h goes on there
 pub onward_at : (N E : ℕ) (from load places : List ℕ) → Onward N E from load places → (u h : ℕ) → u < length places → Looking E from load u h →
     Onward N E from load (set places u h)
@@ -61,13 +57,6 @@ onward_at N E from load places on u h l L v b = ⊎_elim here (λ n. subst (Look
   where
     here : v ≡ u → Looking E from load v (nth (set places u h) v)
     here q = subst (λ (w : ℕ). Looking E from load w (nth (set places u h) w)) (sym q) (subst (Looking E from load u) (sym (get_or-set_same places u h 0 l)) L)
-
--- no search has to go back where loads fall
-onward_falls : (N E : ℕ) (from load now places : List ℕ) → Onward N E from load places → ((e : ℕ) → e < E → nth now e ≤ nth load e) →
-    Onward N E from now places
-onward_falls N E from load now places on fall u b =
-    let L = on u b in
-    record { below = L.below; key = L.key; passed = λ e l k h. omega (arith, L.passed e l k h, fall e l) }
 
 -- a sum of which one part is k less
 sum_one_less : (E : ℕ) (f g : ℕ → ℕ) (e k : ℕ) → e < E → f e ≡ g e + k → ((j : ℕ) → j ≢ e → f j ≡ g j) → sum_to E f ≡ sum_to E g + k
@@ -128,10 +117,12 @@ pub taken_at : (E : ℕ) (load ws : List ℕ) (a : ℕ) (now : List ℕ) → Tak
     nth load e ≡ nth now e + a * sum_over (only e) ws
 taken_at E load ws a now t e b = omega (arith, t.worths (only e), worth_only E load e b, worth_only E now e b)
 
--- a way that is taken off leaves the searches where they are
+-- where a way is taken off, loads fall alone: each search goes on where it ended
 pub onward_taken : (N E : ℕ) (from load ws : List ℕ) (a : ℕ) (now places : List ℕ) → TakenOff E load ws a now → Onward N E from load places →
     Onward N E from now places
-onward_taken N E from load ws a now places t on = onward_falls N E from load now places on (λ e b. omega (arith, taken_at E load ws a now t e b))
+onward_taken N E from load ws a now places t on u b =
+    let L = on u b in
+    record { below = L.below; key = L.key; passed = λ e l k h. omega (arith, L.passed e l k h, taken_at E load ws a now t e l) }
 
 no_tail : (ds : List ℕ) (e : ℕ) (es : List ℕ) → ds ++ (e ∷ es) ≡ [] → ⊥
 no_tail [] e es q = let n : ◌≡◌ {A = ℕ} 0 1 = cc in omega arith

@@ -130,6 +130,10 @@ pub record NextLoaded (E : ℕ) (from load : List ℕ) (u r : ℕ) : Type 0 wher
   pub none : r ≡ 0 → (e : ℕ) → e < E → nth from e ≡ u → nth load e ≡ 0
   pub some : (e : ℕ) → r ≡ e + 1 → (e < E) × (nth from e ≡ u) × (1 ≤ nth load e)
 
+-- no edge of u from the number r on is loaded: so that loaded edge is the first in u's chain, in which the numbers fall
+abbrev pub FirstInChain : ℕ → List ℕ → List ℕ → ℕ → ℕ → Type 0
+FirstInChain E from load u r = (e : ℕ) → e < E → nth from e ≡ u → r ≤ e → nth load e ≡ 0
+
 -- the search down the chain of u has come to h: no edge of u from h on is loaded
 pub record Looking (E : ℕ) (from load : List ℕ) (u h : ℕ) : Type 0 where
   pub below : h ≤ E

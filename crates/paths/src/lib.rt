@@ -11,7 +11,7 @@ ghost use Rattle.mathematics.specs.Links.{link_vertices, path_of};
 ghost use Rattle.network.specs.Network.{nth, Chained, most_nodes, most_edges, most_moved};
 ghost use Rattle.forms.specs.GraphForm.{vertex_count};
 ghost use Rattle.paths.specs.Slots.{prepared_of, all_slots, reading_slot, link_at};
-ghost use Rattle.paths.specs.Peel.{path_at, collected, PathTable, ReadsHeld, Written, GoesRound, worth_of, Circles, plus_one, NextLoaded, Onward, Walked, TakenOff, Ready, opens_at, PeeledOne, Peeled};
+ghost use Rattle.paths.specs.Peel.{path_at, collected, PathTable, ReadsHeld, Written, GoesRound, worth_of, Circles, plus_one, NextLoaded, FirstInChain, Onward, Walked, TakenOff, Ready, opens_at, PeeledOne, Peeled};
 ghost use Rattle.reads.specs.ReadTable.{row_length};
 
 pub use crate::collect::{Path, Paths};
@@ -38,6 +38,7 @@ fn next_loaded(
     requires chained { Chained network.now.nodes network.now.edges network.now.from chains.now.head chains.now.next }
     requires onward { Onward network.now.nodes network.now.edges network.now.from load.now onward.old }
     ensures next { NextLoaded network.now.edges network.now.from load.now u (plus_one result) }
+    ensures first { FirstInChain network.now.edges network.now.from load.now u (plus_one result) }
     ensures onward_2 { Onward network.now.nodes network.now.edges network.now.from load.now onward.new }
 {
     let mut h = onward[u];

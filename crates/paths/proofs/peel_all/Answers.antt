@@ -1,6 +1,6 @@
 -- `paths::peel_all` meets its contract. Assumes nothing.
 use Rattle.std.proofs.Common.{◌<◌, subst, sym, refl, arith}
-use Rattle.paths.proofs.PeelLaws.{onward_first}
+use Rattle.paths.proofs.PeelLaws.{look_first}
 use Rattle.paths.proofs.PeelLawsLinks.{slots_few}
 use Rattle.paths.proofs.PeelLawsAll.{peel_step, loaded_less, peel_end, between_start, step_room}
 use Rattle.paths.proofs.peel_all.Goals as goal
@@ -8,7 +8,7 @@ use Rattle.paths.proofs.peel_all.Goals as goal
 pub loop-first-init : goal.loop-first-init
 loop-first-init c = (
   between_start _ _ _ _ _ refl (omega arith) (omega arith) c.requires.goes c.requires.carries,
-  onward_first _ _ _ _ _ _ c.requires.ready.chained,
+  λ u b. look_first _ _ _ _ _ _ u c.requires.ready.chained b,
 )
 
 pub peel_one-requires-clause-room : goal.peel_one-requires-clause-room
